@@ -1,0 +1,42 @@
+-- Drawings, and the crossing number by all of them.
+use Rattle.std.specs.Prelude.{◌≡◌, ℕ, ◌+◌, ◌*◌, ◌<◌, ◌≤◌, true, List, length}
+use Rattle.xn_model.specs.Graph.{Graph, edges_of}
+use Rattle.xn_model.specs.Lists.{has, position_in, at}
+use Rattle.xn_model.specs.Map.{IsFlatMap}
+use Rattle.xn_model.specs.Orders.{IsOrders, order_at, crossing_count}
+use Rattle.xn_model.specs.Web.{web_of, first_segment}
+
+-- e and f cross, and don't touch: at their crossing two turns lead from the segment of e before it to the one after it
+abbrev pub CrossesAt : List ℕ → (ℕ → List ℕ) → (ℕ → ℕ) → ℕ → ℕ → Type 0
+CrossesAt edges ord next e f =
+    let before = first_segment edges ord e + position_in (ord e) f in
+    next (next (2 * before + 1)) ≡ 2 * (before + 1)
+
+-- the map of the planarised graph is flat, and the edges cross at each crossing
+pub record IsDrawing (g : Graph) (ord : ℕ → List ℕ) (next : ℕ → ℕ) : Type 0 where
+  pub orders : IsOrders g.ends (edges_of g) ord
+  pub flat_map : IsFlatMap (web_of g (edges_of g) ord) next
+  pub crosses : (e f : ℕ) → e < f → has (ord e) f ≡ true → CrossesAt (edges_of g) ord next e f
+
+-- the lists of all edges as a function
+abbrev pub order_of : Graph → List (List ℕ) → ℕ → List ℕ
+order_of g lists = order_at (edges_of g) lists
+
+-- one list for each edge and two turns for each segment, and they are a drawing
+pub record IsListedDrawing (g : Graph) (lists : List (List ℕ)) (next : List ℕ) : Type 0 where
+  pub lists_fit : length lists ≡ length g.ends
+  pub next_fits : length next ≡ 2 * length (web_of g (edges_of g) (order_of g lists)).ends
+  pub drawing : IsDrawing g (order_of g lists) (at next)
+
+-- every drawing has at least k crossings
+abbrev pub Least : Graph → ℕ → Type 0
+Least g k = (ord : ℕ → List ℕ) (next : ℕ → ℕ) → IsDrawing g ord next → k ≤ crossing_count g ord
+
+-- some drawing has at most k crossings
+abbrev pub IsAtMost : Graph → ℕ → Type 0
+IsAtMost g k = (ord : ℕ → List ℕ) × (next : ℕ → ℕ) × IsDrawing g ord next × (crossing_count g ord ≤ k)
+
+-- k is the crossing number
+pub record IsCrossingNumber (g : Graph) (k : ℕ) : Type 0 where
+  pub least : Least g k
+  pub at_most : IsAtMost g k

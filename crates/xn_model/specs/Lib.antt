@@ -1,0 +1,7 @@
+pub mod Drawing
+pub mod Graph
+pub mod Lists
+pub mod Map
+pub mod Orders
+pub mod Permutation
+pub mod Web
