@@ -1,6 +1,10 @@
 pub mod Drawing
+pub mod Evidence
 pub mod Graph
+pub mod Insertion
+pub mod Limit
 pub mod Lists
+pub mod Loose
 pub mod Map
 pub mod Orders
 pub mod Permutation
