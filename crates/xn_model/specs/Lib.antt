@@ -1,7 +1,10 @@
+pub mod Decide
 pub mod Drawing
 pub mod Evidence
+pub mod Examples
 pub mod Graph
 pub mod Insertion
+pub mod Laws
 pub mod Limit
 pub mod Lists
 pub mod Loose
