@@ -1,0 +1,9 @@
+//! The text of answers. So far plain answers: the answer to a graph that is drawn without crossings.
+#![tactic(auto)]
+
+mod flaw;
+mod lines;
+mod plain;
+
+pub use flaw::{AnswerErr, DrawFlaw, Euler, Flaw, FlawKind};
+pub use plain::{Front, read_front, read_tail};
