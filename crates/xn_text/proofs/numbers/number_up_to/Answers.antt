@@ -2,7 +2,7 @@ use Rattle.std.proofs.Common.{◌≡◌, ◌+◌, ℕ, true, rules, arith, ap, �
 use Rattle.std.proofs.Math.Seq.{take-length}
 use Rattle.xn_text.specs.declared.numbers.WordNumber.TheVariants.{Is}
 use Rattle.xn_text.specs.Number.{is_number, number_value}
-use Rattle.xn_text.proofs.Digits.{value_more, large_by, is_large, is_by, is_number_tells}
+use Rattle.xn_text.proofs.Digits.{value_more, large_by, is_by, is_number_tells}
 use Rattle.xn_text.proofs.numbers.number_up_to.Goals as goal
 
 pub returns-in_default : goal.returns-in_default
