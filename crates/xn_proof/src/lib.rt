@@ -2,6 +2,7 @@
 #![tactic(auto)]
 
 mod flaw;
+pub mod laws;
 mod lines;
 mod plain;
 
