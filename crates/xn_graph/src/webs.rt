@@ -9,7 +9,7 @@ use std::marker::Model;
 use thiserror::Error;
 
 /// The most nodes, and the most segments, of a web.
-const MAX_WEB: usize = 1 << 30;
+pub const MAX_WEB: usize = 1 << 30;
 
 /// Why a number of nodes and a list of ends are no web: the first cause in this order.
 #[derive(Clone, Copy, Debug, PartialEq, Eq, Error)]
@@ -87,7 +87,10 @@ impl Web {
         ensures { IfOk result (λ w. w ≡ self.now) }
     {
         let ends = Vec::from_slice(alloc, self.ends.as_slice())?;
-        Ok(Web { nodes: self.nodes, ends })
+        Ok(Web {
+            nodes: self.nodes,
+            ends,
+        })
     }
 }
 
