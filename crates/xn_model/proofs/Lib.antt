@@ -1,0 +1,3 @@
+pub mod Decide
+pub mod Examples
+pub mod Ranges
