@@ -54,7 +54,7 @@ impl Model for Graph {
 impl Graph {
     /// The graph of these nodes and ends.
     pub fn make(nodes: u32, ends: Vec<(u32, u32)>) -> Result<Graph, GraphErr>
-        ensures ok { OkIff result (IsLimitedGraph (graph_of nodes ends.items)) (graph_of nodes ends.items) }
+        ensures ok { let g = graph_of nodes ends.items in OkIff result (IsLimitedGraph g) g }
         ensures err { (e : GraphErr) → IsErrOf result e ↔ IsRefused nodes ends.items e }
     {
         if nodes > MAX_NODES {

@@ -45,7 +45,7 @@ impl Model for Web {
 impl Web {
     /// The web of these nodes and ends.
     pub fn make(nodes: u32, ends: Vec<(u32, u32)>) -> Result<Web, WebErr>
-        ensures ok { OkIff result (IsLimitedWeb (graph_of nodes ends.items)) (graph_of nodes ends.items) }
+        ensures ok { let web = graph_of nodes ends.items in OkIff result (IsLimitedWeb web) web }
         ensures err { (e : WebErr) → IsErrOf result e ↔ IsRefusedWeb nodes ends.items e }
     {
         if nodes as usize > MAX_WEB || ends.len() > MAX_WEB {
