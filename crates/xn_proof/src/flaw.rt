@@ -3,15 +3,7 @@ ghost use Rattle.std.specs.Prelude.{◌≡◌};
 ghost use Rattle.xn_proof.specs.declared.flaw.AnswerErr.TheVariants.{Memory};
 
 use std::alloc::{AllocError, AllocFailed};
-
-/// How many nodes, segments, faces and components a map has.
-#[derive(Clone, Copy, Debug, PartialEq, Eq)]
-pub struct Euler {
-    pub v: u64,
-    pub e: u64,
-    pub f: u64,
-    pub c: u64,
-}
+use xn_graph::Euler;
 
 /// Why the turns are no drawing.
 #[derive(Clone, Copy, Debug, PartialEq, Eq)]

@@ -1,0 +1,4 @@
+//! stub
+#![tactic(auto)]
+mod maps;
+pub use maps::{Map, MapErr};
