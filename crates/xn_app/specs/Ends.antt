@@ -2,7 +2,7 @@
 use Rattle.std.specs.Prelude.{◌≡◌, ◌<◌, ℕ, List, Option, Result, Ok, Err, length, take}
 use Rattle.std.specs.Io.KnownBytes.{Appends}
 use Rattle.xn_graph.specs.declared.counts.Euler.{Euler}
-use Rattle.xn_proof.specs.declared.flaw.Flaw.{Flaw}
+use Rattle.xn_kinds.specs.declared.flaws.Flaw.{Flaw}
 use Rattle.xn_app.specs.declared.status.Status.{Status}
 use Rattle.xn_app.specs.Output.{output_of, seen_line, flaw_line}
 use Rattle.xn_app.specs.Status.{status_of}

@@ -1,7 +1,7 @@
 -- The verdict in the words of the answer.
 use Rattle.std.specs.Prelude.{ℕ, List, Ok, Err, ◌↔◌}
 use Rattle.xn_graph.specs.declared.counts.Euler.{Euler}
-use Rattle.xn_proof.specs.declared.flaw.Flaw.{Flaw}
+use Rattle.xn_kinds.specs.declared.flaws.Flaw.{Flaw}
 use Rattle.xn_app.specs.Verdict.{Verdict, IsPlainDrawing}
 
 -- the counts are given exactly where the text is a plain answer whose turns are a drawing

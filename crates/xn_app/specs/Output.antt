@@ -1,10 +1,10 @@
 -- The line that is written.
 use Rattle.std.specs.Prelude.{ℕ, List, ◌++◌, Result, Ok, Err, decimal, codes}
 use Rattle.xn_graph.specs.declared.counts.Euler.{Euler}
-use Rattle.xn_proof.specs.declared.flaw.Flaw.{Flaw}
-use Rattle.xn_proof.specs.declared.flaw.FlawKind.{FlawKind}
-use Rattle.xn_proof.specs.declared.flaw.FlawKind.TheVariants.{Unread, Draw}
-use Rattle.xn_proof.specs.declared.flaw.DrawFlaw.TheVariants.{Rotation, Genus}
+use Rattle.xn_kinds.specs.declared.flaws.Flaw.{Flaw}
+use Rattle.xn_kinds.specs.declared.flaws.FlawKind.{FlawKind}
+use Rattle.xn_kinds.specs.declared.flaws.FlawKind.TheVariants.{Unread, Draw}
+use Rattle.xn_kinds.specs.declared.flaws.DrawFlaw.TheVariants.{Length, Order, Dependent, Rotation, Touch, Genus}
 
 -- what is said of a drawing
 abbrev pub seen_line : Euler → List ℕ
@@ -17,6 +17,10 @@ seen_line counts =
 -- why a line is refused
 abbrev pub kind_text : FlawKind → List ℕ
 kind_text Unread = codes " unread\n"
+kind_text (Draw Length) = codes " length\n"
+kind_text (Draw (Order e f)) = codes " order " ++ (decimal e ++ (codes " " ++ (decimal f ++ codes "\n")))
+kind_text (Draw (Dependent e f)) = codes " dependent " ++ (decimal e ++ (codes " " ++ (decimal f ++ codes "\n")))
+kind_text (Draw (Touch e f)) = codes " touch " ++ (decimal e ++ (codes " " ++ (decimal f ++ codes "\n")))
 kind_text (Draw (Rotation d)) = codes " rotation " ++ (decimal d ++ codes "\n")
 kind_text (Draw (Genus counts)) =
     codes " genus " ++ (decimal counts.v

@@ -1,7 +1,7 @@
 -- The codes of the ends, and at which nothing is written.
 use Rattle.std.specs.Prelude.{ℕ, Result, Ok, Err}
 use Rattle.xn_graph.specs.declared.counts.Euler.{Euler}
-use Rattle.xn_proof.specs.declared.flaw.Flaw.{Flaw}
+use Rattle.xn_kinds.specs.declared.flaws.Flaw.{Flaw}
 use Rattle.xn_app.specs.declared.status.Status.{Status}
 use Rattle.xn_app.specs.declared.status.Status.TheVariants.{Done, Refused, Words, Limit, Read, Write, Memory}
 

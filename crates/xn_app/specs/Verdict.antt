@@ -8,11 +8,11 @@ use Rattle.xn_graph.specs.declared.counts.Euler.{Euler}
 use Rattle.xn_map.specs.Rotation.{IsRotationFlaw}
 use Rattle.xn_proof.specs.declared.flaw.AnswerErr.{AnswerErr}
 use Rattle.xn_proof.specs.declared.flaw.AnswerErr.TheVariants as errors
-use Rattle.xn_proof.specs.declared.flaw.DrawFlaw.{DrawFlaw}
-use Rattle.xn_proof.specs.declared.flaw.DrawFlaw.TheVariants.{Rotation, Genus}
-use Rattle.xn_proof.specs.declared.flaw.Flaw.{Flaw}
-use Rattle.xn_proof.specs.declared.flaw.FlawKind.{FlawKind}
-use Rattle.xn_proof.specs.declared.flaw.FlawKind.TheVariants.{Unread, Draw}
+use Rattle.xn_kinds.specs.declared.flaws.DrawFlaw.{DrawFlaw}
+use Rattle.xn_kinds.specs.declared.flaws.DrawFlaw.TheVariants.{Length, Order, Dependent, Rotation, Touch, Genus}
+use Rattle.xn_kinds.specs.declared.flaws.Flaw.{Flaw}
+use Rattle.xn_kinds.specs.declared.flaws.FlawKind.{FlawKind}
+use Rattle.xn_kinds.specs.declared.flaws.FlawKind.TheVariants.{Unread, Draw}
 use Rattle.xn_proof.specs.Plain.{Plain, IsPlain, next_of, drawn_line, front_at, tail_at}
 use Rattle.xn_proof.specs.Spelling.{text_of}
 
@@ -39,7 +39,11 @@ pub record IsPlainDrawing (text : List ℕ) (counts : Euler) : Type 0 where
 -- what can be wrong with the turns
 abbrev pub TurnsFail : Plain → FlawKind → Type 0
 TurnsFail p Unread = ⊥
-TurnsFail p (Draw (Rotation d)) = IsRotationFlaw (graph_of p) (next_of p.turns) d
+TurnsFail p (Draw Length) = ⊥
+TurnsFail p (Draw (Order e f)) = ⊥
+TurnsFail p (Draw (Dependent e f)) = ⊥
+TurnsFail p (Draw (Touch e f)) = ⊥
+TurnsFail p (Draw (Rotation d)) = IsRotationFlaw p.ends (turns_of p) d
 TurnsFail p (Draw (Genus counts)) = IsMap p.nodes p.ends (turns_of p) × (counts ≡ counts_of p) × ¬ (IsBalanced counts)
 
 -- the turns are tested at the line `drawn`, and then the text after it is read

@@ -6,7 +6,8 @@ ghost use Rattle.xn_proof.specs.Plain.{said};
 use std::alloc::Global;
 use xn_graph::{Euler, Web};
 use xn_map::{Map, MapErr};
-use xn_proof::{AnswerErr, DrawFlaw, Flaw, FlawKind, Front, read_front, read_tail};
+use xn_kinds::{DrawFlaw, Flaw, FlawKind};
+use xn_proof::{AnswerErr, Front, read_front, read_tail};
 
 /// The counts of the drawing that a plain answer has, or the first line that fails and why.
 pub fn examine(alloc: Global, text: &[u8]) -> Result<Euler, AnswerErr>

@@ -5,7 +5,7 @@ ghost use Rattle.xn_app.specs.Output.{seen_line, flaw_line};
 
 use std::alloc::{AllocError, Global};
 use xn_graph::Euler;
-use xn_proof::{DrawFlaw, Flaw, FlawKind};
+use xn_kinds::{DrawFlaw, Flaw, FlawKind};
 
 /// The line for a drawing.
 pub fn seen_line(alloc: Global, counts: &Euler) -> Result<String, AllocError>
@@ -25,6 +25,12 @@ pub fn flaw_line(alloc: Global, flaw: &Flaw) -> Result<String, AllocError>
     let line = flaw.line;
     match flaw.kind {
         FlawKind::Unread => format!(in alloc; "refused {line} unread\n"),
+        FlawKind::Draw(DrawFlaw::Length) => format!(in alloc; "refused {line} length\n"),
+        FlawKind::Draw(DrawFlaw::Order(e, f)) => format!(in alloc; "refused {line} order {e} {f}\n"),
+        FlawKind::Draw(DrawFlaw::Dependent(e, f)) => format!(in alloc;
+            "refused {line} dependent {e} {f}\n"
+        ),
+        FlawKind::Draw(DrawFlaw::Touch(e, f)) => format!(in alloc; "refused {line} touch {e} {f}\n"),
         FlawKind::Draw(DrawFlaw::Rotation(dart)) => format!(in alloc;
             "refused {line} rotation {dart}\n"
         ),

@@ -2,7 +2,7 @@
 ghost use Rattle.std.specs.Prelude.{◌≡◌};
 ghost use Rattle.xn_app.specs.Status.{code_of};
 
-use xn_proof::Flaw;
+use xn_kinds::Flaw;
 
 /// A limit that the input passes.
 #[derive(Clone, Copy, Debug, PartialEq, Eq)]

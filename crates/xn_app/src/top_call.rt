@@ -4,7 +4,7 @@ ghost use Rattle.std.specs.String.{string_bytes};
 ghost use Rattle.std.specs.Io.KnownBytes.{Appends};
 ghost use Rattle.xn_io.specs.Causes.{Rose};
 ghost use Rattle.xn_io.specs.Input.{bytes_of, IsLonger};
-ghost use Rattle.xn_proof.specs.declared.flaw.Flaw.{Flaw};
+ghost use Rattle.xn_kinds.specs.declared.flaws.Flaw.{Flaw};
 ghost use Rattle.xn_graph.specs.declared.counts.Euler.{Euler};
 ghost use Rattle.xn_app.specs.Command.{IsExamine, file_of};
 ghost use Rattle.xn_app.specs.Ends.{EndsWith, WroteFor, SaysDrawing, SaysFlaw};

@@ -1,5 +1,5 @@
 // stub
-ghost use Rattle.std.specs.Prelude.{◌≡◌, ◌*◌, length, IfOk, IsErrOf, IsTrue, ◌↔◌, ◌≢◌};
+ghost use Rattle.std.specs.Prelude.{◌≡◌, ◌*◌, length, ℕ, IfOk, IsErrOf, IsTrue, ◌↔◌, ◌≢◌};
 ghost use Rattle.xn_model.specs.Map.{IsFlat, IsMap};
 ghost use Rattle.xn_model.specs.Lists.{at};
 ghost use Rattle.xn_graph.specs.Counts.{euler_of};
@@ -29,8 +29,8 @@ impl Map {
     pub fn make(alloc: Global, web: Web, next: &[u32]) -> Result<Map, MapErr>
         ensures ok { IfOk result (λ m. (m.web ≡ web) × (m.next ≡ next.now)) }
         ensures is_map { IfOk result (λ m. IsMap web.nodes web.ends (at next.now)) }
-        ensures length { IsErrOf result MapErr.Length ↔ (length next.now ≢ 2 * length web.ends) }
-        ensures rotation { (d : ℕ) → IsErrOf result (MapErr.Rotation d) → IsRotationFlaw web next.now d }
+        ensures length { IsErrOf result MapErr.Length → (length next.now ≢ 2 * length web.ends) }
+        ensures rotation { (d : ℕ) → IsErrOf result (MapErr.Rotation d) → IsRotationFlaw web.ends (at next.now) d }
     {
         Err(MapErr::Memory)
     }

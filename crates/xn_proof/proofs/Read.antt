@@ -4,7 +4,7 @@ use Rattle.std.proofs.lemmas.Bool.{eqb-true}
 use Rattle.std.proofs.lemmas.List.{append-nil}
 use Rattle.std.specs.Prelude.{codes, ◌≢◌}
 use Rattle.std.specs.List.{All}
-use Rattle.xn_proof.specs.declared.flaw.Flaw.{Flaw}
+use Rattle.xn_kinds.specs.declared.flaws.Flaw.{Flaw}
 use Rattle.xn_proof.specs.Plain.{Plain, IsPlain, Head, head_at, effort_from, drawing_at, front_at, tail_at, graph_at, edge_at, effort_at, turn_at, drawn_line}
 use Rattle.xn_proof.specs.Reading.{◌>>=◌, unread, fixed_at, one_at, many_at, same_at}
 use Rattle.xn_proof.specs.Spelling.{line, one_line, two_line, each, times, head_text, drawing_text, tail_text, text_of}

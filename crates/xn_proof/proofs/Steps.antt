@@ -1,7 +1,7 @@
 -- Steps of reading that did not fail.
 use Rattle.std.proofs.Common.{◌≡◌, ℕ, zero, suc, ◌<◌, Bool, true, false, cond, List, ◌∷◌, get_or, length, Result, Ok, Err, refl, arith}
 use Rattle.std.specs.List.{All}
-use Rattle.xn_proof.specs.declared.flaw.Flaw.{Flaw}
+use Rattle.xn_kinds.specs.declared.flaws.Flaw.{Flaw}
 use Rattle.xn_proof.specs.Reading.{◌>>=◌}
 
 -- the value of a step that did not fail

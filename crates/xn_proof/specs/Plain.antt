@@ -1,7 +1,7 @@
 -- Plain answers: a graph, and its map without crossings. Their lines in order, and the first that fails.
 use Rattle.std.specs.Prelude.{◌≡◌, ◌≢◌, ℕ, ◌+◌, ◌*◌, ◌^◌, ◌<◌, ◌≤◌, List, [], ◌∷◌, length, Result, Ok, Err, nat_lt, ◌==◌, if◌then◌else◌, codes, All}
 use Rattle.std.specs.List.{flat_map}
-use Rattle.xn_proof.specs.declared.flaw.Flaw.{Flaw}
+use Rattle.xn_kinds.specs.declared.flaws.Flaw.{Flaw}
 use Rattle.xn_proof.specs.declared.plain.Front.{Front}
 use Rattle.xn_proof.specs.declared.plain.Head as declared
 use Rattle.xn_proof.specs.Reading.{◌>>=◌, unread, fixed_at, one_at, two_at, many_at, same_at}

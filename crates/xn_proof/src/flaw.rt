@@ -1,33 +1,16 @@
-// Why an answer is refused.
+// Why no answer is given: a flaw of its text, or want of memory.
 ghost use Rattle.std.specs.Prelude.{◌≡◌};
 ghost use Rattle.xn_proof.specs.declared.flaw.AnswerErr.TheVariants.{Memory};
 
 use std::alloc::{AllocError, AllocFailed};
-use xn_graph::Euler;
+use xn_kinds::Flaw;
 
-/// Why the turns are no drawing.
-#[derive(Clone, Copy, Debug, PartialEq, Eq)]
-pub enum DrawFlaw {
-    Rotation(u32),
-    Genus(Euler),
-}
-
-#[derive(Clone, Copy, Debug, PartialEq, Eq)]
-pub enum FlawKind {
-    Unread,
-    Draw(DrawFlaw),
-}
-
-/// What is wrong, and in which line, from 1 on.
-#[derive(Clone, Copy, Debug, PartialEq, Eq)]
-pub struct Flaw {
-    pub line: u64,
-    pub kind: FlawKind,
-}
-
+/// Why no answer is given.
 #[derive(Clone, Copy, Debug, PartialEq, Eq)]
 pub enum AnswerErr {
+    /// The text is refused for this flaw.
     Refused(Flaw),
+    /// Memory was wanting.
     Memory,
 }
 

@@ -6,5 +6,5 @@ pub mod laws;
 mod lines;
 mod plain;
 
-pub use flaw::{AnswerErr, DrawFlaw, Flaw, FlawKind};
+pub use flaw::AnswerErr;
 pub use plain::{Front, read_front, read_tail};
