@@ -24,6 +24,16 @@ IsSilent (Limit l) = Unit {0}
 IsSilent Read = Unit {0}
 IsSilent Memory = Unit {0}
 
+-- an end at which the whole file was judged
+abbrev pub IsJudged : Status → Type 0
+IsJudged Done = Unit {0}
+IsJudged (Refused f) = Unit {0}
+IsJudged Write = Unit {0}
+IsJudged Words = ⊥
+IsJudged (Limit l) = ⊥
+IsJudged Read = ⊥
+IsJudged Memory = ⊥
+
 -- the end to which a verdict leads
 abbrev pub status_of : Result Euler Flaw → Status
 status_of (Ok counts) = Done

@@ -1,7 +1,7 @@
 // What is said of the text of an answer.
-ghost use Rattle.std.specs.Prelude.{◌≡◌, Ok, Err};
-ghost use Rattle.xn_app.specs.Verdict.{GivesVerdict, GivesDrawn, AfterDrawn, counts_of};
-ghost use Rattle.xn_proof.specs.Plain.{said};
+ghost use Rattle.std.specs.Prelude.{◌≡◌};
+ghost use Rattle.xn_app.specs.Verdict.{GivesVerdict, GivesDrawn};
+ghost use Rattle.xn_proof.specs.Plain.{said, IsPlain};
 
 use std::alloc::Global;
 use xn_graph::{Euler, Web};
@@ -22,6 +22,7 @@ pub fn examine(alloc: Global, text: &[u8]) -> Result<Euler, AnswerErr>
 
 // The counts of the drawing, or why the turns are none.
 fn counts_of_drawing(alloc: Global, drawn: u64, front: Front) -> Result<Euler, AnswerErr>
+    requires { IsPlain (said front) }
     ensures { GivesDrawn (said front) drawn result }
 {
     let next = front.next(alloc)?;
@@ -36,7 +37,7 @@ fn counts_of_drawing(alloc: Global, drawn: u64, front: Front) -> Result<Euler, A
         Err(MapErr::Memory) => return Err(AnswerErr::Memory),
     };
     let counts = map.euler(alloc)?;
-    if counts.v + counts.f == 2 * counts.c + counts.e {
+    if counts.is_balanced() {
         Ok(counts)
     } else {
         Err(refused(drawn, DrawFlaw::Genus(counts)))

@@ -1,15 +1,12 @@
 // All that the program does.
-ghost use Rattle.std.specs.Prelude.{◌≡◌, ◌^◌, ◌<◌, ◌↔◌, ◌⊎◌, Ok, Err, Some, true, false, IfOk, IfSome};
+ghost use Rattle.std.specs.Prelude.{◌≡◌, ◌^◌, ◌<◌, ◌≤◌, ◌↔◌, ◌⊎◌, Some, true, IfOk, IfSome};
 ghost use Rattle.std.specs.String.{string_bytes};
-ghost use Rattle.std.specs.Io.KnownBytes.{Appends};
 ghost use Rattle.xn_io.specs.Causes.{Rose};
 ghost use Rattle.xn_io.specs.Input.{bytes_of, IsLonger};
 ghost use Rattle.xn_kinds.specs.declared.flaws.Flaw.{Flaw};
-ghost use Rattle.xn_graph.specs.declared.counts.Euler.{Euler};
 ghost use Rattle.xn_app.specs.Command.{IsExamine, file_of};
-ghost use Rattle.xn_app.specs.Ends.{EndsWith, WroteFor, SaysDrawing, SaysFlaw};
-ghost use Rattle.xn_app.specs.Status.{IsSilent};
-ghost use Rattle.xn_app.specs.Verdict.{IsPlainDrawing, Verdict};
+ghost use Rattle.xn_app.specs.Ends.{EndsWith, SaysDrawing, SaysFlaw, WroteFor};
+ghost use Rattle.xn_app.specs.Status.{IsJudged, IsSilent};
 
 use crate::examine::examine;
 use crate::output::{flaw_line, seen_line};
@@ -35,7 +32,8 @@ pub fn top<I: Input, K: Sink>(alloc: Global, words: &[String], input: &mut I, ou
         (λ files. SaysFlaw (bytes_of files (file_of words.now)) flaw (K.taken out.old) (K.taken out.new)) }
 
     // When each other end comes.
-    ensures limit { result ≡ Status.Limit Limit.Bytes ↔ (2 ^ 62 < I.got input.new) × IsExamine words.now }
+    ensures limit { result ≡ Status.Limit Limit.Bytes → 2 ^ 62 < I.got input.new }
+    ensures within { IsJudged result → I.got input.new ≤ 2 ^ 62 }
     ensures longer { result ≡ Status.Limit Limit.Bytes → IsLonger (I.told input.old) (file_of words.now) (2 ^ 62) }
     ensures read { result ≡ Status.Read → Rose (I.faults input.old) (I.faults input.new) × (I.failed input.new ≡ true) }
     ensures name { IsExamine words.now → result ≡ Status.Memory ⊎ (I.name input.new ≡ Some (file_of words.now)) }

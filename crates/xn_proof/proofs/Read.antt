@@ -92,9 +92,9 @@ drawing_is m i text t e =
       small = second.all;
     })
 
-record FrontIs (text : List ℕ) (r : Plain × List ℕ) : Type 0 where
-  text_is : text ≡ (head_text r.0 ++ drawing_text r.0) ++ r.1
-  plain : IsPlain r.0
+pub record FrontIs (text : List ℕ) (r : Plain × List ℕ) : Type 0 where
+  pub text_is : text ≡ (head_text r.0 ++ drawing_text r.0) ++ r.1
+  pub plain : IsPlain r.0
 
 front_parts : (t h t1 a b t2 c d e rest : List ℕ) → t ≡ h ++ t1 → t1 ≡ (a ++ b) ++ t2 → t2 ≡ (c ++ (d ++ e)) ++ rest → t ≡ (h ++ (a ++ (b ++ (c ++ (d ++ e))))) ++ rest
 front_parts t h t1 a b t2 c d e rest p q r = p ∙ ap (λ (l : List ℕ). h ++ l) (q ∙ ap (λ (l : List ℕ). (a ++ b) ++ l) r) ∙ simp append_assoc
@@ -105,7 +105,7 @@ spelled_by rest h s turns text k =
     text ≡ ((line (codes "crossing-answer 1") ++ (two_line (codes "graph") (h.nodes, k) ++ (one_line (codes "loops") h.loops ++ each (two_line (codes "edge")) h.ends)))
     ++ (line (codes "bounds 0 0") ++ (two_line (codes "effort") s ++ (times k (line (codes "along 0")) ++ (each (two_line (codes "turn")) turns ++ line (codes "drawn")))))) ++ rest
 
-front_is : (text : List ℕ) (r : Plain × List ℕ) → front_at text ≡ Ok r → FrontIs text r
+pub front_is : (text : List ℕ) (r : Plain × List ℕ) → front_at text ≡ Ok r → FrontIs text r
 unfolding front_at head_text drawing_text
 front_is text r e =
     let after_effort : Head → ℕ × ℕ → List ℕ → Result (Plain × List ℕ) Flaw = λ h s rest. drawing_at h.edges (6 + h.edges) rest >>= λ t. Ok (record { nodes = h.nodes; loops = h.loops; ends = h.ends; spent = s.0; budget = s.1; turns = t.0 }, t.1) in
