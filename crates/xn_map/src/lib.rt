@@ -1,4 +1,0 @@
-//! stub
-#![tactic(auto)]
-mod maps;
-pub use maps::{Map, MapErr};
