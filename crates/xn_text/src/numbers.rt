@@ -3,7 +3,7 @@ ghost use Rattle.std.specs.Prelude.{◌≡◌, ◌+◌, ◌^◌, ◌<◌, ◌↔
 ghost use Rattle.std.specs.Fmt.{signed_decimal};
 ghost use Rattle.std.specs.Char.{is_ascii_digit};
 ghost use Rattle.std.specs.List.{list_all};
-ghost use Rattle.xn_text.specs.Number.{IsLarge, IsNumber, is_number, word_number};
+ghost use Rattle.xn_text.specs.Number.{IsBelow, IsLarge, IsNumber, is_number, word_number};
 
 use itoa::Buffer;
 use std::alloc::AllocError;
@@ -37,11 +37,12 @@ pub fn word_u32(word: &[u8]) -> WordNumber
     ensures not { (result ≡ WordNumber.Not) ↔ ¬ (IsNumber word.now) }
     ensures large { (result ≡ WordNumber.Large) ↔ IsLarge (2 ^ 32) word.now }
     ensures is { (n : ℕ) → n < 2 ^ 32 → (result ≡ WordNumber.Is n) ↔ (word.now ≡ decimal n) }
+    ensures below { IsBelow (2 ^ 32) result }
 {
     number_up_to(u32::MAX as u64, word)
 }
 
-// The number that a word spells, where it is at most so great.
+// The number that a word spells, or `Large` above the greatest that is asked for.
 fn number_up_to(most: u64, word: &[u8]) -> WordNumber
     ensures { result ≡ word_number (most + 1) word.now }
 {
@@ -67,16 +68,7 @@ fn number_up_to(most: u64, word: &[u8]) -> WordNumber
 fn is_number(word: &[u8]) -> bool
     ensures { result ≡ is_number word.now }
 {
-    if word.is_empty() {
-        return false;
-    }
-    if !all_digits(word) {
-        return false;
-    }
-    if word[0] == b'0' {
-        return word.len() == 1;
-    }
-    true
+    !word.is_empty() && all_digits(word) && (word[0] != b'0' || word.len() == 1)
 }
 
 fn all_digits(word: &[u8]) -> bool
