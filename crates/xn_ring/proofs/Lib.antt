@@ -1,1 +1,6 @@
+pub mod Agreeing
+pub mod Counting
 pub mod Inverse
+pub mod Orbits
+pub mod Splice
+pub mod SplitRing

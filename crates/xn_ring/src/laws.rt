@@ -1,0 +1,34 @@
+//! Laws of permutations: functions on the numbers below a bound, their walks and the number of their cycles.
+//! Each function here does nothing: its contract is the law.
+ghost use Rattle.xn_ring.specs.Swaps.{ListsSwap, SwapsAreUndone, SwapsCutRings, SwapsJoin, SwapsLeaveOthers, SwapsPermute, SwapsSplit};
+ghost use Rattle.xn_ring.specs.Walks.{AgreeingIsEnough, EachIsLedTo, EachWalkHasOneLeast, LeastIsLeast, WalksAreDecided, WalksComeBack, WalksGoOn, WalksLeadBack};
+
+/// Where the walks of a permutation lead.
+pub fn walks()
+    ensures come_back { WalksComeBack }
+    ensures lead_back { WalksLeadBack }
+    ensures go_on { WalksGoOn }
+    ensures decided { WalksAreDecided }
+    ensures led_to { EachIsLedTo }
+    ensures agreeing { AgreeingIsEnough }
+{
+}
+
+/// The number of cycles is the number of the least, one of each walk.
+pub fn least()
+    ensures least { LeastIsLeast }
+    ensures one { EachWalkHasOneLeast }
+{
+}
+
+/// What a swap of two successors does to the cycles.
+pub fn swaps()
+    ensures permutes { SwapsPermute }
+    ensures undone { SwapsAreUndone }
+    ensures joins { SwapsJoin }
+    ensures splits { SwapsSplit }
+    ensures others { SwapsLeaveOthers }
+    ensures cuts { SwapsCutRings }
+    ensures lists { ListsSwap }
+{
+}
