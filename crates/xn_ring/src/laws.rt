@@ -1,5 +1,6 @@
 //! Laws of permutations: functions on the numbers below a bound, their walks and the number of their cycles.
 //! Each function here does nothing: its contract is the law.
+ghost use Rattle.xn_ring.specs.Removals.{TakesAllOut, TakesOut};
 ghost use Rattle.xn_ring.specs.Swaps.{ListsSwap, SwapsAreUndone, SwapsCutRings, SwapsJoin, SwapsLeaveOthers, SwapsPermute, SwapsSplit};
 ghost use Rattle.xn_ring.specs.Walks.{AgreeingIsEnough, EachIsLedTo, EachWalkHasOneLeast, LeastIsLeast, WalksAreDecided, WalksComeBack, WalksGoOn, WalksLeadBack};
 
@@ -30,5 +31,12 @@ pub fn swaps()
     ensures others { SwapsLeaveOthers }
     ensures cuts { SwapsCutRings }
     ensures lists { ListsSwap }
+{
+}
+
+/// What it does to the cycles to take numbers out, each alone from then on.
+pub fn removals()
+    ensures one { TakesOut }
+    ensures several { TakesAllOut }
 {
 }
