@@ -1,5 +1,5 @@
 -- How many numbers pass a test.
-use Rattle.std.proofs.Common.{◌≡◌, ◌≢◌, ℕ, zero, suc, ◌+◌, ◌<◌, ◌≤◌, ◌⊎◌, inl, inr, Bool, true, false, not, cond, ◌&&◌, eqb, refl, sym, ◌∙◌, ap, ap₂, subst, arith}
+use Rattle.std.proofs.Common.{◌≡◌, ◌≢◌, ℕ, zero, suc, ◌+◌, ◌<◌, ◌≤◌, inl, inr, Bool, true, false, not, cond, ◌&&◌, eqb, refl, sym, ◌∙◌, ap, ap₂, subst, arith}
 use Rattle.std.proofs.lemmas.Bool.{cases_eq, cases_Bool, cond-true, cond-false, eq-eqb, ne_eqb}
 use Rattle.xn_model.specs.Lists.{one_if}
 use Rattle.xn_model.specs.Permutation.{count_below}
@@ -69,26 +69,30 @@ pub count_injects : (n k : ℕ) (p q : ℕ → Bool) (M : ℕ → ℕ → Type 0
 count_injects zero k p q M into apart = omega arith
 count_injects (suc n) k p q M into apart = elim (cases_Bool (p n)) [
   | inl passes_n ↦
-    let to = into n (omega arith) passes_n in
-    let t = to.0 in
-    let one : count_below k q ≡ suc (count_below k (but t q)) =
-        count-differs k q (but t q) t to.1 to.2 (cond-true _ _ _ (eq-eqb t t refl)) (λ d below other. sym (cond-false _ _ _ (ne_eqb d t other))) in
-    let rest : count_below n p ≤ count_below k (but t q) = count_injects n k p (but t q) M
-        (λ d below passes.
-          let there = into d (omega arith) passes in
-          (there.0, there.1, elim (cases_eq there.0 t) [
-            | inl same ↦
+      let to = into n (omega arith) passes_n in
+      let t = to.0 in
+      let one : count_below k q ≡ suc (count_below k (but t q)) =
+      count-differs k q (but t q) t to.1 to.2 (cond-true _ _ _ (eq-eqb t t refl)) (λ d below other. sym (cond-false _ _ _ (ne_eqb d t other))) in
+      let rest : count_below n p ≤ count_below k (but t q) = count_injects n k p (but t q) M
+      (λ d below passes.
+      let there = into d (omega arith) passes in (
+        there.0,
+        there.1,
+        elim (cases_eq there.0 t) [
+          | inl same ↦
               let P : ℕ → Type 0 = λ x. M d x in
               let M_d : M d t = subst P same there.3 in
               let e : d ≡ n = apart d n t (omega arith) (omega arith) M_d to.3 in
               absurd (omega (arith, e))
-            | inr other ↦ cond-false _ _ _ (ne_eqb there.0 t other) ∙ there.2
-          ], there.3))
-        (λ d e s d_in e_in. apart d e s (omega arith) (omega arith)) in
-    let last : one_if (p n) ≡ 1 = ap one_if passes_n in
-    omega (arith, one, rest, last)
+          | inr other ↦ cond-false _ _ _ (ne_eqb there.0 t other) ∙ there.2
+        ],
+        there.3,
+      ))
+      (λ d e s d_in e_in. apart d e s (omega arith) (omega arith)) in
+      let last : one_if (p n) ≡ 1 = ap one_if passes_n in
+      omega (arith, one, rest, last)
   | inr fails_n ↦
-    let rest : count_below n p ≤ count_below k q = count_injects n k p q M (λ d below. into d (omega arith)) (λ d e s d_in e_in. apart d e s (omega arith) (omega arith)) in
-    let last : one_if (p n) ≡ 0 = ap one_if fails_n in
-    omega (arith, rest, last)
+      let rest : count_below n p ≤ count_below k q = count_injects n k p q M (λ d below. into d (omega arith)) (λ d e s d_in e_in. apart d e s (omega arith) (omega arith)) in
+      let last : one_if (p n) ≡ 0 = ap one_if fails_n in
+      omega (arith, rest, last)
 ]

@@ -1,5 +1,5 @@
 -- What the walks of a permutation do.
-use Rattle.std.proofs.Common.{◌≡◌, ◌≢◌, ℕ, zero, suc, ◌+◌, ◌*◌, ◌<◌, ◌≤◌, ◌↔◌, ◌⊎◌, inl, inr, Bool, true, false, eqb, leb, length, refl, sym, ◌∙◌, ap, subst, ltb, arith, zero-add}
+use Rattle.std.proofs.Common.{◌≡◌, ℕ, zero, suc, ◌+◌, ◌*◌, ◌<◌, ◌≤◌, ◌↔◌, ◌⊎◌, inl, inr, Bool, true, false, eqb, leb, length, refl, sym, ◌∙◌, ap, subst, ltb, arith, zero-add}
 use Rattle.std.specs.List.{list_all, list_any, IsDistinct, AllByRecursion}
 use Rattle.std.proofs.lemmas.Bool.{and_parts, and_from, leb-true, le-leb, ltb-true, ltb-false, eqb-true, eqb-false, ne_eqb, cases_eq, cases_Bool, or_cases, both_ways}
 use Rattle.std.proofs.lemmas.Map.Steps.{length-le_from_distinct_below}
@@ -207,13 +207,15 @@ pub IsLeastOf-walk : (n : ℕ) (f : ℕ → ℕ) → Permutes n f → (d : ℕ) 
 IsLeastOf-walk n f permutes d d_in =
     let found = least_of n f permutes d d_in in
     let m = found.0 in
-    let m_in = reaches_below n f permutes d m d_in found.1 in
-    (m, record {
-      below = m_in;
-      there = found.1;
-      least = test-from_IsLeast n f permutes m found.2;
-      only = λ e there passes.
-          let e_in = reaches_below n f permutes d e d_in there in
-          let on = reaches_trans f m d e (reaches_back n f permutes d m d_in found.1) there in
-          sym (least_unique n f permutes m e m_in on found.2 (IsLeast-from_test n f permutes e e_in passes));
-    })
+    let m_in = reaches_below n f permutes d m d_in found.1 in (
+      m,
+      record {
+        below = m_in;
+        there = found.1;
+        least = test-from_IsLeast n f permutes m found.2;
+        only = λ e there passes.
+            let e_in = reaches_below n f permutes d e d_in there in
+            let on = reaches_trans f m d e (reaches_back n f permutes d m d_in found.1) there in
+            sym (least_unique n f permutes m e m_in on found.2 (IsLeast-from_test n f permutes e e_in passes));
+      },
+    )

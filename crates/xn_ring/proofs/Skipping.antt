@@ -1,5 +1,5 @@
 -- With several numbers taken out, each of the others leads to the next that is left.
-use Rattle.std.proofs.Common.{◌≡◌, ◌≢◌, ℕ, zero, suc, ◌+◌, ◌-◌, ◌<◌, ◌≤◌, ◌⊎◌, inl, inr, Bool, true, false, not, ◌||◌, eqb, List, [], ◌∷◌, refl, sym, ◌∙◌, ap, arith}
+use Rattle.std.proofs.Common.{◌≡◌, ◌≢◌, ℕ, suc, ◌+◌, ◌-◌, ◌<◌, inl, inr, Bool, true, false, not, ◌||◌, eqb, List, [], ◌∷◌, refl, sym, ◌∙◌, ap, arith}
 use Rattle.std.proofs.lemmas.Bool.{cases_eq, cases_lt, eq-eqb, eqb-true, ne_eqb, or_cases, both_ways}
 use Rattle.xn_model.specs.Lists.{has}
 use Rattle.xn_model.specs.Permutation.{Permutes, iterate, without}
@@ -96,7 +96,7 @@ module _ (n : ℕ) (f : ℕ → ℕ) (permutes : Permutes n f) where
                       let k = i - suc one.steps in
                       let size : suc i ≡ suc k + suc one.steps = omega (arith, not_first, later) in
                       let is : iterate f (suc i) d ≡ iterate f (suc k) x =
-                          ap (λ m. iterate f m d) size ∙ iterate-add f (suc k) (suc one.steps) d ∙ ap (iterate f (suc k)) at_x in
+                      ap (λ m. iterate f m d) size ∙ iterate-add f (suc k) (suc one.steps) d ∙ ap (iterate f (suc k)) at_x in
                       listed_later (eqb x (iterate f (suc i) d)) (has xs (iterate f (suc i) d))
                       (ap (λ z. not (has xs z)) is ∙ two.passed k (omega (arith, early, not_first, later)))
                 ]

@@ -1,5 +1,5 @@
 -- A swap of two successors joins two cycles into one, or splits one into two.
-use Rattle.std.proofs.Common.{◌≡◌, ◌≢◌, ℕ, zero, suc, ◌+◌, ◌-◌, ◌<◌, ◌≤◌, ◌⊎◌, inl, inr, Bool, true, false, eqb, List, length, swap, refl, sym, ◌∙◌, ap, subst, arith}
+use Rattle.std.proofs.Common.{◌≡◌, ◌≢◌, ℕ, zero, suc, ◌+◌, ◌-◌, ◌<◌, ◌≤◌, ◌⊎◌, inl, inr, eqb, List, length, swap, refl, sym, ◌∙◌, ap, subst, arith}
 use Rattle.std.proofs.lemmas.Bool.{eqb-true, eqb-false, cases_eq, cases_order, false_from_ne_true}
 use Rattle.xn_model.specs.Lists.{at}
 use Rattle.xn_model.specs.Permutation.{Permutes, iterate, is_least, cycle_count, Reaches, IsSplice}
@@ -15,6 +15,13 @@ splice_undone n a b f g s = record { first = sym s.second; second = sym s.first;
 -- a swap of b and a is one of a and b
 pub splice_turned : (n a b : ℕ) (f g : ℕ → ℕ) → IsSplice n a b f g → IsSplice n b a f g
 splice_turned n a b f g s = record { first = s.second; second = s.first; others = λ d below x y. s.others d below y x }
+
+-- a swap of a successor with itself changes nothing
+pub splice_same : (n a : ℕ) (f g : ℕ → ℕ) → IsSplice n a a f g → (d : ℕ) → d < n → g d ≡ f d
+splice_same n a f g s d d_in = elim (cases_eq d a) [
+  | inl at_a ↦ ap g at_a ∙ s.first ∙ ap f (sym at_a)
+  | inr not_a ↦ s.others d d_in not_a not_a
+]
 
 -- where the number at d comes from
 module _ (n a b : ℕ) (f g : ℕ → ℕ) (permutes : Permutes n f) (s : IsSplice n a b f g) (a_in : a < n) (b_in : b < n) where

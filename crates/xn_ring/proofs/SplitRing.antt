@@ -1,5 +1,5 @@
 -- A ring is cut before a and before b: what a leads to then is one ring, and the rest is another.
-use Rattle.std.proofs.Common.{◌≡◌, ◌≢◌, ℕ, zero, suc, ◌+◌, ◌<◌, ◌≤◌, ◌⊎◌, inl, inr, refl, sym, ◌∙◌, ap, subst, arith}
+use Rattle.std.proofs.Common.{◌≡◌, ◌≢◌, ℕ, zero, suc, ◌<◌, inl, inr, refl, sym, ◌∙◌, ap, subst, arith}
 use Rattle.std.proofs.lemmas.Bool.{cases_eq}
 use Rattle.xn_model.specs.Permutation.{IsSplice, Permutes, Reaches, iterate}
 use Rattle.xn_ring.proofs.Orbits.{iterate_below, reaches_back, reaches_trans, within_round}
@@ -59,8 +59,8 @@ module _ (n a b c e : ℕ) (f g : ℕ → ℕ) (permutes : Permutes n f) (s : Is
       let x_in = iterate_below n f permutes k a a_in in
       let same = arc k (λ i low. free i (omega (arith, low))) in
       let not_c : x ≢ c = λ at_c.
-            let now : Reaches g a c = (k, same ∙ at_c) in
-            b_stays (reaches_trans g a c b now (1, c_to_b)) in
+      let now : Reaches g a c = (k, same ∙ at_c) in
+      b_stays (reaches_trans g a c b now (1, c_to_b)) in
       ap g same ∙ s.others x x_in not_c (free k (omega arith))
 
   module _ (j : ℕ) (comes : iterate f j a ≡ b) (first : (i : ℕ) → i < j → iterate f i a ≢ b) where

@@ -1,5 +1,5 @@
 -- A number taken out of its cycle.
-use Rattle.std.proofs.Common.{◌≡◌, ◌≢◌, ℕ, zero, suc, ◌+◌, ◌<◌, ◌↔◌, ◌⊎◌, inl, inr, refl, sym, ◌∙◌, ap, subst, arith}
+use Rattle.std.proofs.Common.{◌≡◌, ◌≢◌, ℕ, zero, suc, ◌<◌, inl, inr, refl, sym, ◌∙◌, ap, subst, arith}
 use Rattle.std.proofs.lemmas.Bool.{cases_eq, cond-true, cond-false, eq-eqb, ne_eqb}
 use Rattle.xn_model.specs.Permutation.{IsSplice, Permutes, Reaches, cycle_count, iterate, without}
 use Rattle.xn_ring.proofs.Orbits.{iterate_below, reaches_step, source_of}

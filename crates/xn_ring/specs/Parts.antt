@@ -1,5 +1,5 @@
 -- Laws on the cycles of a part of the numbers.
-use Rattle.std.specs.Prelude.{◌≡◌, ◌≢◌, ℕ, suc, ◌+◌, ◌*◌, ◌<◌, ◌≤◌, ◌↔◌, ◌&&◌, Bool, true, not, All, List, length, nat_eq}
+use Rattle.std.specs.Prelude.{◌≡◌, ℕ, ◌+◌, ◌*◌, ◌<◌, ◌≤◌, ◌↔◌, ◌&&◌, Bool, true, not, All, List, length, nat_eq}
 use Rattle.std.specs.List.{IsDistinct, list_any}
 use Rattle.xn_model.specs.Permutation.{Permutes, Reaches, count_below, cycle_count, is_least, walk}
 use Rattle.xn_ring.specs.Removals.{IsNextKept}
@@ -72,8 +72,8 @@ HalvesAddUp =
     (n k : ℕ) (g h f : ℕ → ℕ) → Permutes n g → Permutes k h → IsBeside n k g h f → HasCyclesOfBoth n k g h f
 
 -- and a permutation that keeps the numbers below n is two halves
-abbrev pub KeptHalvesPart : Type 0
-KeptHalvesPart =
+abbrev pub HalvesComeApart : Type 0
+HalvesComeApart =
     (n k : ℕ) (f : ℕ → ℕ) → Permutes (n + k) f → ((d : ℕ) → d < n → f d < n) →
     (h : ℕ → ℕ) × Permutes n f × Permutes k h × IsBeside n k f h f
 

@@ -12,6 +12,10 @@ SwapsPermute =
 abbrev pub SwapsAreUndone : Type 0
 SwapsAreUndone = (n a b : ℕ) (f g : ℕ → ℕ) → IsSplice n a b f g → IsSplice n a b g f
 
+-- a swap of a successor with itself changes nothing
+abbrev pub SwapsOfOne : Type 0
+SwapsOfOne = (n a : ℕ) (f g : ℕ → ℕ) → IsSplice n a a f g → (d : ℕ) → d < n → g d ≡ f d
+
 -- g has the cycles of f, but those of a and b are two in f and one in g
 pub record JoinsCycles (n a b : ℕ) (f g : ℕ → ℕ) : Type 0 where
   pub two : ¬ Reaches f a b

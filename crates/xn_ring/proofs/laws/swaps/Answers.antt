@@ -1,4 +1,4 @@
-use Rattle.xn_ring.proofs.Splice.{IsSplice-swap, JoinsCycles-splice, JoinsCycles-split, Permutes-splice, splice_undone, walk-others}
+use Rattle.xn_ring.proofs.Splice.{IsSplice-swap, JoinsCycles-splice, JoinsCycles-split, Permutes-splice, splice_same, splice_undone, walk-others}
 use Rattle.xn_ring.proofs.SplitRing.{cuts_ring}
 use Rattle.xn_ring.proofs.laws.swaps.Goals as goal
 
@@ -22,3 +22,6 @@ returns-clause-cuts c = cuts_ring
 
 pub returns-clause-lists : goal.returns-clause-lists
 returns-clause-lists c = IsSplice-swap
+
+pub returns-clause-same : goal.returns-clause-same
+returns-clause-same c = splice_same
