@@ -1,4 +1,4 @@
--- The calls of a fake, which are numbered from 0.
+-- Calls that are numbered from 0, and of which some fail.
 use Rattle.std.specs.Prelude.{◌≡◌, ℕ, ◌+◌, ◌-◌, ◌^◌, min, List, Contains}
 use Rattle.xn_io.specs.declared.calls.Calls.{Calls}
 

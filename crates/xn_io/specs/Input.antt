@@ -1,5 +1,5 @@
 -- Files by their names, and what the calls of an input do to the bytes that are left.
-use Rattle.std.specs.Prelude.{◌≡◌, ℕ, ◌<◌, List, [], ◌∷◌, ◌++◌, length, take, if◌then◌else◌, Option, None, Some, unwrap_or, Result, OnOk, IfOk, IfSome, ⊤, Vec, String}
+use Rattle.std.specs.Prelude.{◌≡◌, ℕ, ◌<◌, List, [], ◌∷◌, length, take, if◌then◌else◌, Option, None, Some, unwrap_or, Result, OnOk, IfOk, IfSome, Vec, String}
 use Rattle.std.specs.String.{string_bytes}
 use Rattle.std.specs.declared.alloc.Global.{Global}
 use Rattle.std.specs.Str.{bytes_eq}

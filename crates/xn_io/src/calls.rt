@@ -1,6 +1,6 @@
-// The calls of a fake, some of which fail.
+// Calls of which some fail.
 
-// Numbers calls from 0. Those whose numbers are listed fail.
+/// The calls of an object, which are numbered from 0. Those whose numbers are listed fail.
 #[derive(Drop)]
 pub struct Calls {
     fail: Vec<u64>,
@@ -11,6 +11,7 @@ impl Calls {
     ghost use Rattle.std.specs.Prelude.{◌≡◌, ◌↔◌, IsTrue};
     ghost use Rattle.xn_io.specs.Calls.{IsFailing, Passes, number_of, failing_of};
 
+    /// No call has come.
     pub fn new(fail: Vec<u64>) -> Calls
         ensures number { number_of result ≡ 0 }
         ensures failing { failing_of result ≡ fail.items }
@@ -18,7 +19,7 @@ impl Calls {
         Calls { fail, number: 0 }
     }
 
-    // Passes one number, and says whether that call fails.
+    /// Passes one number, and says whether that call fails.
     pub fn next_fails(&mut self) -> bool
         ensures fails { IsTrue result ↔ IsFailing self.old }
         ensures passes { Passes self.old self.new }

@@ -1,4 +1,5 @@
-//! What the program reads from and writes to: an input of named files, a sink of bytes, and their implementations.
+//! What the program reads from and writes to: an input of named files, a sink of bytes, and what
+//! implements them over the system, over memory, and without faults.
 #![tactic(auto)]
 
 mod calls;

@@ -6,7 +6,7 @@ use crate::faults::count_fault;
 use crate::shelf::Shelf;
 use crate::{Failed, Input};
 
-/// Files in memory, all told. A read gives at most a step, and the calls that are named fail.
+/// Files in memory, all told. A read gives at most a step, and the calls that are listed fail.
 #[derive(Drop)]
 pub struct MemInput {
     shelf: Shelf,

@@ -7,7 +7,7 @@ use crate::{Failed, Sink};
 use std::alloc::{AllocError, Global};
 
 /// A sink with room for so many bytes, which tells what it took. A write takes at most a step, and
-/// the writes that are named fail.
+/// the writes that are listed fail.
 #[derive(Drop)]
 pub struct MemSink {
     taken: Vec<u8>,
@@ -59,10 +59,9 @@ impl MemSink {
 }
 
 impl Sink for MemSink {
-    ghost use Rattle.std.specs.Prelude.{◌≡◌, ◌<◌, ◌↔◌, IsErr, IfOk, length};
-    ghost use Rattle.std.specs.Io.{WritesAtMost};
+    ghost use Rattle.std.specs.Prelude.{◌≡◌, ◌↔◌, IsErr, IfOk};
     ghost use Rattle.std.specs.Io.KnownBytes.{WriteAppends};
-    ghost use Rattle.xn_io.specs.Causes.{Rose, HasCause};
+    ghost use Rattle.xn_io.specs.Causes.{HasCause};
     ghost use Rattle.xn_io.specs.MemSink.{taken_by, faults_of, amount_of, FailsToWrite, NumbersWrite};
 
     ghost faults = { faults_of };
@@ -72,7 +71,6 @@ impl Sink for MemSink {
     fn write(&mut self, piece: &[u8]) -> Result<usize, Failed>
         ensures taken { WriteAppends (taken_by self.old) (taken_by self.new) result piece.now }
         ensures cause { HasCause (faults_of self.old) (faults_of self.new) result }
-
         ensures fails { IsErr result ↔ FailsToWrite self.old piece.now }
         ensures amount { IfOk result (λ n. n ≡ amount_of self.old piece.now) }
         ensures numbered { NumbersWrite self.old self.new }

@@ -39,7 +39,8 @@ pub fn read_all<I: Input>(
 
     // Too many bytes come exactly where more than the limit were taken, and then the name has them.
     ensures too_long { IsErrOf result ReadErr.TooLong ↔ (limit < I.got input.new) }
-    ensures longer { IsErrOf result ReadErr.TooLong → IsLonger (I.told input.old) (string_bytes name) limit }
+    ensures longer { IsErrOf result ReadErr.TooLong
+        → IsLonger (I.told input.old) (string_bytes name) limit }
 
     ensures name { I.name input.new ≡ Some (string_bytes name) }
     ensures told { I.told input.new ≡ I.told input.old }

@@ -5,7 +5,7 @@ ghost use Rattle.std.specs.String.{string_bytes};
 ghost use Rattle.xn_io.specs.Input.{entries, entry_of};
 ghost use Rattle.xn_io.specs.Shelf.{begun_bytes};
 
-// Files by their names, the name that was begun last, and how many bytes of it were read.
+/// Files by their names, the name that was begun last, and how many bytes of it were read.
 #[derive(Drop)]
 pub struct Shelf {
     files: Vec<(String, Vec<u8>)>,
@@ -17,6 +17,7 @@ impl Shelf {
     ghost use Rattle.std.specs.Prelude.{◌+◌, ◌<◌, ◌^◌, ◌↔◌, IsTrue, IsSome, None};
     ghost use Rattle.xn_io.specs.Shelf.{files_of, name_of, got_of, left_of, BeginsName, ReadsBytes};
 
+    /// No name is begun.
     pub fn new(files: Vec<(String, Vec<u8>)>) -> Shelf
         ensures files { files_of result ≡ entries files.items }
         ensures name { name_of result ≡ None }
@@ -28,7 +29,7 @@ impl Shelf {
         }
     }
 
-    // Begins a name, and says whether it is listed.
+    /// Begins a name, and says whether it is listed.
     pub fn begin(&mut self, file: String) -> bool
         ensures listed { IsTrue result ↔ IsSome (entry_of (files_of self.old) (string_bytes file)) }
         ensures begins { BeginsName self.old self.new (string_bytes file) }
@@ -39,7 +40,7 @@ impl Shelf {
         is_listed
     }
 
-    // Reads at most so many bytes of the begun name into the front of a buffer, and says how many.
+    /// Reads at most so many bytes of the begun name into the front of a buffer, and says how many.
     pub fn read(&mut self, most: usize, buf: &mut [u8]) -> usize
         ensures amount { result ≡ min (length buf.new) (min most (length (left_of self.old))) }
         ensures reads { ReadsBytes self.old self.new result buf.new }

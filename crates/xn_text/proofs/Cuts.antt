@@ -31,21 +31,22 @@ ended_stands old new number line t =
 pub last_stands : (old new : ℕ × List ℕ) (number : ℕ) (line : List ℕ) → TakesLine old new number line false → Lacks 10 line × (old.1 ≡ line) × (new.1 ≡ [])
 last_stands old new number line t =
     let at = position_or_len is_line_end old.1 in
-    let past : length old.1 ≤ at = ltb-false at (length old.1) (sym t.ended_is) in
-    (subst (Lacks 10) (sym t.bytes_are) (front_lacks old.1),
-     sym (t.bytes_are ∙ take_all at old.1 past),
-     t.rest_is ∙ drop_all (at + 1) old.1 (omega arith))
+    let past : length old.1 ≤ at = ltb-false at (length old.1) (sym t.ended_is) in (
+      subst (Lacks 10) (sym t.bytes_are) (front_lacks old.1),
+      sym (t.bytes_are ∙ take_all at old.1 past),
+      t.rest_is ∙ drop_all (at + 1) old.1 (omega arith),
+    )
 
 pub ended_is_taken : (number : ℕ) (line rest : List ℕ) → Lacks 10 line → TakesLine (number, line ++ 10 ∷ rest) (number + 1, rest) number line true
 ended_is_taken number line rest lacks =
     let text = line ++ 10 ∷ rest in
     let long : length text ≡ length line + (length rest + 1) = length-append line (10 ∷ rest) ∙ ap (λ (n : ℕ). length line + n) (sym (add-one (length rest))) in
     let at : position_or_len is_line_end text ≡ length line =
-      position_or_len_is is_line_end text (length line) 0 (omega (arith, long))
-      (λ k h. ap is_line_end (get_or-append line (10 ∷ rest) 0 k h) ∙ fails_test 10 line lacks k 0 h)
-      (λ h. ap is_line_end (get_or-append_seam line 10 rest 0)) in
+    position_or_len_is is_line_end text (length line) 0 (omega (arith, long))
+    (λ k h. ap is_line_end (get_or-append line (10 ∷ rest) 0 k h) ∙ fails_test 10 line lacks k 0 h)
+    (λ h. ap is_line_end (get_or-append_seam line 10 rest 0)) in
     let behind : drop (length line + 1) text ≡ rest =
-      ap (drop (length line + 1)) (sym (append_assoc line (10 ∷ []) rest)) ∙ drop_at (line ++ 10 ∷ []) rest (length line + 1) (length-append line (10 ∷ [])) in
+    ap (drop (length line + 1)) (sym (append_assoc line (10 ∷ []) rest)) ∙ drop_at (line ++ 10 ∷ []) rest (length line + 1) (length-append line (10 ∷ [])) in
     record {
       some = omega (arith, long);
       number_is = refl;
@@ -63,9 +64,9 @@ onto_lacks b (word ∷ words) apart lack = All-cons (Lacks 32) (b ∷ word) word
 words_lack : (line : List ℕ) → All (Lacks 32) (words_of line)
 words_lack [] = All-cons (Lacks 32) [] [] (All-nil (λ x. x ≢ 32)) (All-nil (Lacks 32))
 words_lack (b ∷ line) = elim (cases_Bool (eqb b 32)) [
-    | inl space ↦ rw (slice_split-cons_yes (λ x. eqb x 32) b line space) (All-cons (Lacks 32) [] (words_of line) (All-nil (λ x. x ≢ 32)) (words_lack line))
-    | inr other ↦ rw (slice_split-cons_no (λ x. eqb x 32) b line other) (onto_lacks b (words_of line) (eqb-false b 32 other) (words_lack line))
-  ]
+  | inl space ↦ rw (slice_split-cons_yes (λ x. eqb x 32) b line space) (All-cons (Lacks 32) [] (words_of line) (All-nil (λ x. x ≢ 32)) (words_lack line))
+  | inr other ↦ rw (slice_split-cons_no (λ x. eqb x 32) b line other) (onto_lacks b (words_of line) (eqb-false b 32 other) (words_lack line))
+]
 
 pub words_are_the_line : (line : List ℕ) → All (Lacks 32) (words_of line) × (join_with_byte 32 (words_of line) ≡ line)
 words_are_the_line line = (words_lack line, join_with_byte-slice_split 32 line)

@@ -27,7 +27,8 @@ EndedLineIsTaken =
 
 -- the words of a line have no space, and joined by spaces they are the line
 abbrev pub WordsAreTheLine : Type 0
-WordsAreTheLine = (line : List ℕ) → All (Lacks 32) (words_of line) × (join_with_byte 32 (words_of line) ≡ line)
+WordsAreTheLine =
+    (line : List ℕ) → All (Lacks 32) (words_of line) × (join_with_byte 32 (words_of line) ≡ line)
 
 -- words that are joined by spaces are the words of their line
 abbrev pub JoinedWordsAreFound : Type 0

@@ -6,15 +6,13 @@ pub fn line_laws()
     ensures ended { EndedLineStands }
     ensures last { LastLineStands }
     ensures taken { EndedLineIsTaken }
-{
-}
+{}
 
 /// The words of a line are its bytes, and no other words are.
 pub fn word_laws()
     ensures joined { WordsAreTheLine }
     ensures found { JoinedWordsAreFound }
-{
-}
+{}
 
 /// A number has one spelling, which is read as that number.
 pub fn number_laws()
@@ -23,5 +21,4 @@ pub fn number_laws()
     ensures one { OneSpelling }
     ensures one_signed { OneSignedSpelling }
     ensures word { SpellingIsOneWord }
-{
-}
+{}

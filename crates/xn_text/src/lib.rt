@@ -4,6 +4,8 @@
 mod laws;
 mod numbers;
 mod pieces;
+#[cfg(test)]
+mod tests;
 
 pub use laws::{line_laws, number_laws, word_laws};
 pub use numbers::{WordNumber, put_i128, put_u64, word_u32, word_u64};

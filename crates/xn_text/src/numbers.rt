@@ -1,9 +1,9 @@
 // Numbers, each in its one spelling.
-ghost use Rattle.std.specs.Prelude.{◌≡◌, ◌+◌, ◌^◌, ◌<◌, ◌≤◌, ◌↔◌, ◌++◌, ℕ, OnOk, OnErr, decimal, length, vec_len, vec_capacity};
+ghost use Rattle.std.specs.Prelude.{◌≡◌, ◌+◌, ◌^◌, ◌<◌, ◌↔◌, ◌++◌, ℕ, OnOk, OnErr, decimal, length, vec_len, vec_capacity};
 ghost use Rattle.std.specs.Fmt.{signed_decimal};
 ghost use Rattle.std.specs.Char.{is_ascii_digit};
 ghost use Rattle.std.specs.List.{list_all};
-ghost use Rattle.xn_text.specs.Number.{IsNumber, is_number, number_value, word_number};
+ghost use Rattle.xn_text.specs.Number.{IsBelow, IsLarge, IsNumber, is_number, word_number};
 
 use itoa::Buffer;
 use std::alloc::AllocError;
@@ -23,7 +23,7 @@ pub enum WordNumber {
 pub fn word_u64(word: &[u8]) -> WordNumber
     ensures value { result ≡ word_number (2 ^ 64) word.now }
     ensures not { (result ≡ WordNumber.Not) ↔ ¬ (IsNumber word.now) }
-    ensures large { (result ≡ WordNumber.Large) ↔ (IsNumber word.now × (2 ^ 64 ≤ number_value word.now)) }
+    ensures large { (result ≡ WordNumber.Large) ↔ IsLarge (2 ^ 64) word.now }
 
     // The one spelling of the number, which `put_u64` appends.
     ensures is { (n : ℕ) → n < 2 ^ 64 → (result ≡ WordNumber.Is n) ↔ (word.now ≡ decimal n) }
@@ -35,13 +35,14 @@ pub fn word_u64(word: &[u8]) -> WordNumber
 pub fn word_u32(word: &[u8]) -> WordNumber
     ensures value { result ≡ word_number (2 ^ 32) word.now }
     ensures not { (result ≡ WordNumber.Not) ↔ ¬ (IsNumber word.now) }
-    ensures large { (result ≡ WordNumber.Large) ↔ (IsNumber word.now × (2 ^ 32 ≤ number_value word.now)) }
+    ensures large { (result ≡ WordNumber.Large) ↔ IsLarge (2 ^ 32) word.now }
     ensures is { (n : ℕ) → n < 2 ^ 32 → (result ≡ WordNumber.Is n) ↔ (word.now ≡ decimal n) }
+    ensures below { IsBelow (2 ^ 32) result }
 {
     number_up_to(u32::MAX as u64, word)
 }
 
-// The number that a word spells, where it is at most so great.
+// The number that a word spells, or `Large` above the greatest that is asked for.
 fn number_up_to(most: u64, word: &[u8]) -> WordNumber
     ensures { result ≡ word_number (most + 1) word.now }
 {
@@ -67,16 +68,7 @@ fn number_up_to(most: u64, word: &[u8]) -> WordNumber
 fn is_number(word: &[u8]) -> bool
     ensures { result ≡ is_number word.now }
 {
-    if word.is_empty() {
-        return false;
-    }
-    if !all_digits(word) {
-        return false;
-    }
-    if word[0] == b'0' {
-        return word.len() == 1;
-    }
-    true
+    !word.is_empty() && all_digits(word) && (word[0] != b'0' || word.len() == 1)
 }
 
 fn all_digits(word: &[u8]) -> bool
@@ -94,7 +86,8 @@ pub fn put_u64(to: &mut Vec<u8>, n: u64) -> Result<(), AllocError>
     ensures full { OnErr result (vec_capacity to.old < vec_len to.old + length (decimal n)) }
 {
     let mut buffer = Buffer::new();
-    to.extend_from_slice(buffer.format(n).as_bytes())
+    let digits = buffer.format(n);
+    to.extend_from_slice(digits.as_bytes())
 }
 
 /// Appends the one spelling of a whole number, with `-` in front of a negative one.
@@ -104,5 +97,6 @@ pub fn put_i128(to: &mut Vec<u8>, n: i128) -> Result<(), AllocError>
     ensures full { OnErr result (vec_capacity to.old < vec_len to.old + length (signed_decimal n)) }
 {
     let mut buffer = Buffer::new();
-    to.extend_from_slice(buffer.format(n).as_bytes())
+    let spelling = buffer.format(n);
+    to.extend_from_slice(spelling.as_bytes())
 }

@@ -10,8 +10,8 @@ returns-clause-reads c =
     let got = got_of c.args.self.now in
     let count = c.copy_front-count.result in
     record {
-        bytes = rw (c.copy_front-count.ensures.bytes, c.left.ensures.left, ← drop-drop count got bytes) (sym (take-append-drop count (drop got bytes)));
-        got = refl;
-        name = refl;
-        files = refl;
+      bytes = rw (c.copy_front-count.ensures.bytes, c.left.ensures.left, ← drop-drop count got bytes) (sym (take-append-drop count (drop got bytes)));
+      got = refl;
+      name = refl;
+      files = refl;
     }
