@@ -1,3 +1,4 @@
+pub mod ComponentLaws
 pub mod Drawing
 pub mod Graph
 pub mod Lists

@@ -1,2 +1,4 @@
-//! Definitions alone.
+//! Definitions, and laws about them.
 #![tactic(auto)]
+
+pub mod laws;

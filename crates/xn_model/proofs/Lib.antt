@@ -1,0 +1,3 @@
+pub mod ComponentWalks
+pub mod Components
+pub mod Darts
