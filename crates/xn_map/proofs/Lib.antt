@@ -1,0 +1,5 @@
+pub mod Counting
+pub mod FaceSteps
+pub mod Forest
+pub mod Marking
+pub mod Orbits

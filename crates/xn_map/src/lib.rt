@@ -1,0 +1,6 @@
+//! Maps: webs with a rotation at each node, their faces and components, and Euler's counts.
+#![tactic(auto)]
+
+mod components;
+mod faces;
+mod lone;
