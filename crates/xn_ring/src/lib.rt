@@ -9,6 +9,8 @@ ghost use Rattle.xn_model.specs.Permutation.{IsSplice, Permutes};
 use std::alloc::{AllocError, Global};
 use std::marker::Model;
 
+pub mod laws;
+
 /// Darts in rings: a permutation of the darts below `len`, seen as the list of their successors.
 #[derive(Drop)]
 pub struct Rings {
