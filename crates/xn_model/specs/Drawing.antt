@@ -15,7 +15,7 @@ CrossesAt edges ord next e f =
 -- the map of the planarised graph is flat, and the edges cross at each crossing
 pub record IsDrawing (g : Graph) (ord : ℕ → List ℕ) (next : ℕ → ℕ) : Type 0 where
   pub orders : IsOrders g.ends (edges_of g) ord
-  pub flat_map : IsFlatMap (web_of g (edges_of g) ord) next
+  pub is_flat_map : IsFlatMap (web_of g (edges_of g) ord) next
   pub crosses : (e f : ℕ) → e < f → has (ord e) f ≡ true → CrossesAt (edges_of g) ord next e f
 
 -- the lists of all edges as a function

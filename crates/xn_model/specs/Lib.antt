@@ -1,7 +1,14 @@
 pub mod ComponentLaws
+pub mod Decide
 pub mod Drawing
+pub mod Evidence
+pub mod Examples
 pub mod Graph
+pub mod Insertion
+pub mod Laws
+pub mod Limit
 pub mod Lists
+pub mod Loose
 pub mod Map
 pub mod Orders
 pub mod Permutation

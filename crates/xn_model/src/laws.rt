@@ -1,5 +1,24 @@
-//! Laws that tie the definitions to each other.
+//! Laws that show that the definitions mean what they should. Each is the contract of a function with an empty body.
 ghost use Rattle.xn_model.specs.ComponentLaws.{ComponentsAreByWalks, LabelsAreByWalks};
+ghost use Rattle.xn_model.specs.Examples.{K4IsFlat, K4OnTorus, K5WithOneCrossing, PairsOfK33, TwoLoneNodes};
+ghost use Rattle.xn_model.specs.Laws.{LeastFalls, AtMostRises, BoundsMeet, OneCrossingNumber};
+
+/// Lower and upper bounds of the crossing number agree with each other.
+pub fn bounds_of_the_crossing_number()
+    ensures falls { LeastFalls }
+    ensures rises { AtMostRises }
+    ensures meet { BoundsMeet }
+    ensures one { OneCrossingNumber }
+{}
+
+/// The definitions on worked examples, by computation.
+pub fn worked_examples()
+    ensures k4 { K4IsFlat }
+    ensures torus { K4OnTorus }
+    ensures k5 { K5WithOneCrossing }
+    ensures k33 { PairsOfK33 }
+    ensures lone { TwoLoneNodes }
+{}
 
 /// The labels of components, and so their number, are those by walks of segments.
 pub fn components_by_walks()
