@@ -1,6 +1,7 @@
-ghost use Rattle.std.specs.Prelude.{◌≡◌, ◌<◌, ◌≤◌, ◌↔◌, IfOk, IsErrOf, IfNone, IfSome, OkIff, length};
-ghost use Rattle.xn_model.specs.Graph.{ends_at, independent};
+ghost use Rattle.std.specs.Prelude.{◌≡◌, ◌<◌, ◌≤◌, ◌↔◌, ◌++◌, IfOk, OnOk, IsErrOf, IfNone, IfSome, OkIff, length};
+ghost use Rattle.xn_model.specs.Graph.{ends_at, independent, edges_of, pair_count_of, pairs_of};
 ghost use Rattle.xn_graph.specs.Limits.{IsLimitedGraph, IsEdge, graph_of};
+ghost use Rattle.xn_graph.specs.Pairs.{pairs_from, partners_of};
 ghost use Rattle.xn_graph.specs.Refusals.{IsRefused};
 ghost use Rattle.xn_graph.specs.declared.graphs.GraphErr.{GraphErr};
 
@@ -9,9 +10,9 @@ use std::marker::Model;
 use thiserror::Error;
 
 /// The most nodes of an input graph.
-const MAX_NODES: u32 = 1_000;
+pub const MAX_NODES: u32 = 1_000;
 /// The most edges of an input graph.
-const MAX_EDGES: usize = 1_000;
+pub const MAX_EDGES: usize = 1_000;
 
 /// Why a number of nodes and a list of ends are no input graph: the first cause in this order.
 #[derive(Clone, Copy, Debug, PartialEq, Eq, Error)]
@@ -53,7 +54,7 @@ impl Model for Graph {
 impl Graph {
     /// The graph of these nodes and ends.
     pub fn make(nodes: u32, ends: Vec<(u32, u32)>) -> Result<Graph, GraphErr>
-        ensures ok { OkIff result (IsLimitedGraph (graph_of nodes ends.items)) (graph_of nodes ends.items) }
+        ensures ok { let g = graph_of nodes ends.items in OkIff result (IsLimitedGraph g) g }
         ensures err { (e : GraphErr) → IsErrOf result e ↔ IsRefused nodes ends.items e }
     {
         if nodes > MAX_NODES {
@@ -104,12 +105,61 @@ impl Graph {
         a != c && b != c && a != d && b != d
     }
 
+    /// The number of independent pairs of edges. It compares each two edges and takes no memory.
+    pub fn pair_count(&self) -> u64
+        ensures value { result ≡ pair_count_of self.now }
+        ensures few { result ≤ 499500 }
+    {
+        let mut count = 0;
+        for e in 0..self.edges() {
+            count += self.partner_count(e);
+        }
+        count
+    }
+
+    /// The independent pairs of edges, the smaller edge first, in lexicographic order.
+    pub fn pairs(&self, alloc: Global) -> Result<Vec<(u32, u32)>, AllocError>
+        ensures { IfOk result (λ list. list.items ≡ pairs_of self.now.ends (edges_of self.now)) }
+    {
+        let mut list = Vec::with_capacity(alloc, self.pair_count() as usize)?;
+        for e in 0..self.edges() {
+            self.push_pairs(e, &mut list)?;
+        }
+        Ok(list)
+    }
+
+    /// How many later edges are independent of the edge.
+    fn partner_count(&self, e: u32) -> u64
+        requires { e < length self.now.ends }
+        ensures { result ≡ length (partners_of self.now e) }
+    {
+        let edges = self.edges();
+        (e + 1..edges).filter(|f| self.independent(e, *f)).count() as u64
+    }
+
+    /// Appends the pairs of the edge with each later edge that is independent of it.
+    fn push_pairs(&self, e: u32, list: &mut Vec<(u32, u32)>) -> Result<(), AllocError>
+        requires { e < length self.now.ends }
+        ensures { OnOk result (list.new.items ≡ list.old.items ++ pairs_from self.now e) }
+    {
+        let edges = self.edges();
+        for f in e + 1..edges {
+            if self.independent(e, f) {
+                list.push((e, f))?;
+            }
+        }
+        Ok(())
+    }
+
     /// The same graph again.
     pub fn copy(&self, alloc: Global) -> Result<Graph, AllocError>
         ensures { IfOk result (λ g. g ≡ self.now) }
     {
         let ends = Vec::from_slice(alloc, self.ends.as_slice())?;
-        Ok(Graph { nodes: self.nodes, ends })
+        Ok(Graph {
+            nodes: self.nodes,
+            ends,
+        })
     }
 }
 

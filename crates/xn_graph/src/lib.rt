@@ -3,8 +3,11 @@
 
 mod counts;
 mod graphs;
+pub mod laws;
+#[cfg(test)]
+mod tests;
 mod webs;
 
 pub use counts::Euler;
-pub use graphs::{Graph, GraphErr};
-pub use webs::{Web, WebErr};
+pub use graphs::{Graph, GraphErr, MAX_EDGES, MAX_NODES};
+pub use webs::{MAX_WEB, Web, WebErr};

@@ -9,7 +9,7 @@ use std::marker::Model;
 use thiserror::Error;
 
 /// The most nodes, and the most segments, of a web.
-const MAX_WEB: usize = 1 << 30;
+pub const MAX_WEB: usize = 1 << 30;
 
 /// Why a number of nodes and a list of ends are no web: the first cause in this order.
 #[derive(Clone, Copy, Debug, PartialEq, Eq, Error)]
@@ -45,7 +45,7 @@ impl Model for Web {
 impl Web {
     /// The web of these nodes and ends.
     pub fn make(nodes: u32, ends: Vec<(u32, u32)>) -> Result<Web, WebErr>
-        ensures ok { OkIff result (IsLimitedWeb (graph_of nodes ends.items)) (graph_of nodes ends.items) }
+        ensures ok { let web = graph_of nodes ends.items in OkIff result (IsLimitedWeb web) web }
         ensures err { (e : WebErr) → IsErrOf result e ↔ IsRefusedWeb nodes ends.items e }
     {
         if nodes as usize > MAX_WEB || ends.len() > MAX_WEB {
@@ -87,7 +87,10 @@ impl Web {
         ensures { IfOk result (λ w. w ≡ self.now) }
     {
         let ends = Vec::from_slice(alloc, self.ends.as_slice())?;
-        Ok(Web { nodes: self.nodes, ends })
+        Ok(Web {
+            nodes: self.nodes,
+            ends,
+        })
     }
 }
 

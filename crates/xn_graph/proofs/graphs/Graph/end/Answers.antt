@@ -1,4 +1,4 @@
-use Rattle.std.proofs.Common.{ℕ, ◌<◌, sym, subst, length, arith}
+use Rattle.std.proofs.Common.{ℕ, ◌<◌, sym, subst, length}
 use Rattle.std.proofs.lemmas.List.{get_or_read}
 use Rattle.xn_graph.specs.Limits.{IsEdge, graph_of}
 use Rattle.xn_graph.proofs.Ends.{IsEdge-at}
