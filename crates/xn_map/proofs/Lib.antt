@@ -2,4 +2,3 @@ pub mod Counting
 pub mod FaceSteps
 pub mod Forest
 pub mod Marking
-pub mod Orbits

@@ -3,7 +3,7 @@ use Rattle.std.proofs.lemmas.Grind.{common_steps}
 use Rattle.std.specs.List.{count_by}
 use Rattle.xn_model.specs.Permutation.{count_below}
 use Rattle.xn_map.proofs.Counting.{count_by-count_below}
-use Rattle.xn_map.proofs.Orbits.{count-same}
+use Rattle.xn_ring.proofs.Counting.{count-same}
 use Rattle.xn_map.proofs.lone.lone_count.Goals as goal
 
 pub returns : goal.returns
