@@ -2,3 +2,4 @@ pub mod Counting
 pub mod FaceSteps
 pub mod Forest
 pub mod Marking
+pub mod Rotations

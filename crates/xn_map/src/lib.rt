@@ -2,5 +2,7 @@
 #![tactic(auto)]
 
 mod components;
+mod darts;
 mod faces;
 mod lone;
+mod rotation;
