@@ -1,5 +1,5 @@
 // Whether a list of successors turns round each node, once through all its darts.
-ghost use Rattle.std.specs.Prelude.{◌≡◌, ℕ, ◌+◌, ◌*◌, ◌<◌, ◌↔◌, false, length, replicate, IfOk, IsTrue, MatchOption};
+ghost use Rattle.std.specs.Prelude.{◌≡◌, ℕ, ◌+◌, ◌*◌, ◌^◌, ◌<◌, ◌≤◌, ◌↔◌, false, length, replicate, IfOk, IsTrue, MatchOption};
 ghost use Rattle.xn_model.specs.Lists.{at};
 ghost use Rattle.xn_model.specs.Map.{IsMap};
 ghost use Rattle.xn_model.specs.Permutation.{Permutes};
@@ -9,6 +9,7 @@ ghost use Rattle.xn_map.specs.Rotation.{AreTogether, IsApart, IsFirst, IsRotatio
 use crate::darts::tail;
 use std::alloc::{AllocError, Global};
 use xn_graph::Web;
+use xn_ring::Rings;
 
 /// The dart at which the successors are first no rotation, if there is one.
 pub fn rotation_flaw(alloc: Global, web: &Web, next: &[u32]) -> Result<Option<u32>, AllocError>
@@ -88,5 +89,28 @@ fn mark_ring(marks: &mut [bool], next: &[u32], d: u32)
     while !marks[e as usize] {
         marks[e as usize] = true;
         e = next[e as usize];
+    }
+}
+
+/// Rings with these successors.
+pub fn rings_of(alloc: Global, next: &[u32]) -> Result<Rings, AllocError>
+    requires permutes { Permutes (length next.now) (at next.now) }
+    requires few { length next.now ≤ 2 ^ 31 }
+    ensures { IfOk result (λ rings. rings ≡ next.now) }
+{
+    let mut rings = Rings::new(alloc, next.len() as u32)?;
+    link(&mut rings, next);
+    Ok(rings)
+}
+
+// Gives each dart in turn its successor. The smaller ones keep theirs, since no two have one successor.
+fn link(rings: &mut Rings, next: &[u32])
+    requires permutes { Permutes (length next.now) (at next.now) }
+    requires same_length { length rings.old ≡ length next.now }
+    ensures { rings.new ≡ next.now }
+{
+    for d in 0..rings.len() {
+        let before = rings.prev(next[d as usize]);
+        rings.splice(d, before);
     }
 }
