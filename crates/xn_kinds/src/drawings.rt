@@ -24,7 +24,9 @@ impl Orders {
     pub fn new(lists: Vec<Vec<u32>>) -> Orders
         ensures { result ≡ lists_of lists.items }
     {
-        Orders { lists: Lists::new(lists) }
+        Orders {
+            lists: Lists::new(lists),
+        }
     }
 
     /// The number of edges that have a list.
@@ -46,7 +48,9 @@ impl Orders {
     pub fn copy(&self, alloc: Global) -> Result<Orders, AllocError>
         ensures { IfOk result (λ copy. copy ≡ self.now) }
     {
-        Ok(Orders { lists: self.lists.copy(alloc)? })
+        Ok(Orders {
+            lists: self.lists.copy(alloc)?,
+        })
     }
 }
 

@@ -5,11 +5,11 @@ use xn_graph::Euler;
 pub enum DrawFlaw {
     /// The orders don't have one list for each edge, or the rotation doesn't have two entries for each segment.
     Length,
-    /// The list of the first edge has the second where it can't stand: twice, or no edge, or without the first in its own list.
+    /// The second stands in the list of the first, and is no edge, or stood there before, or hasn't the first in its own list.
     Order(u32, u32),
-    /// The edges cross, and aren't independent.
+    /// The second stands in the list of the first, and they aren't independent.
     Dependent(u32, u32),
-    /// The turns at this dart are no rotation of its node.
+    /// What follows this dart is no dart, or one at another node, or follows a smaller dart too; or else the dart is in another cycle than the least dart of its node.
     Rotation(u32),
     /// The edges, the smaller first, touch at their crossing.
     Touch(u32, u32),
@@ -17,31 +17,31 @@ pub enum DrawFlaw {
     Genus(Euler),
 }
 
-/// What is wrong with an evidence.
+/// What is wrong with an evidence: the first flaw in this order.
 #[derive(Clone, Copy, Debug, PartialEq, Eq)]
 pub enum EvidenceFlaw {
-    /// The branch node at this place is no node, or stands at an earlier place too.
+    /// The branch node at this place is no node of the web, or stands at an earlier place too.
     Branch(u32),
-    /// The path at this place breaks off: two of its segments don't follow each other, or one is no segment.
+    /// The path at this place has an entry that is no segment, or doesn't touch the node that its walk has come to.
     Broken(u32),
-    /// The path at this place doesn't end at its second branch node.
+    /// The path at this place walks to another node than its second branch node.
     Ends(u32),
     /// This segment is used twice.
     Twice(u32),
-    /// This node is an inner node of a path, and a branch node or met before.
+    /// This inner node of a path is a branch node, or was met before.
     Inner(u32),
-    /// The segment at this place of the list of an extension can't stand there.
+    /// The entry at this place of an extension's list is no segment, or stood there before, or shares no node with an earlier one.
     List(u32),
 }
 
 /// What is wrong with a row: the first flaw in this order.
 #[derive(Clone, Copy, Debug, PartialEq, Eq)]
 pub enum RowFlaw {
-    /// This entry of the list of edges is no edge, or isn't above the one before it.
+    /// This listed edge is no edge, or isn't above the one before it.
     Edge(u32),
-    /// The list of the first edge has the second where it can't stand.
+    /// The second stands in the list of the first, and isn't listed, or stood there before, or hasn't the first in its own list.
     Order(u32, u32),
-    /// The edges cross in the row, and aren't independent.
+    /// The second stands in the list of the first, and they aren't independent.
     Dependent(u32, u32),
     /// The evidence has this flaw.
     Evidence(EvidenceFlaw),

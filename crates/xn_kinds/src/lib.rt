@@ -4,10 +4,9 @@
 mod drawings;
 mod flaws;
 mod rows;
-mod trees;
-
 #[cfg(test)]
 mod tests;
+mod trees;
 
 pub use drawings::{Drawing, Orders};
 pub use flaws::{DrawFlaw, EvidenceFlaw, Flaw, FlawKind, RowFlaw};

@@ -25,7 +25,9 @@ impl Paths {
     pub fn new(lists: Vec<Vec<u32>>) -> Paths
         ensures { result ≡ lists_of lists.items }
     {
-        Paths { lists: Lists::new(lists) }
+        Paths {
+            lists: Lists::new(lists),
+        }
     }
 
     /// The number of paths.
@@ -47,7 +49,9 @@ impl Paths {
     pub fn copy(&self, alloc: Global) -> Result<Paths, AllocError>
         ensures { IfOk result (λ copy. copy ≡ self.now) }
     {
-        Ok(Paths { lists: self.lists.copy(alloc)? })
+        Ok(Paths {
+            lists: self.lists.copy(alloc)?,
+        })
     }
 }
 
@@ -81,9 +85,17 @@ impl Evidence {
         ensures { IfOk result (λ copy. copy ≡ self.now) }
     {
         match self {
-            Evidence::Five { branch, paths } => Ok(Evidence::Five { branch: *branch, paths: paths.copy(alloc)? }),
-            Evidence::ThreeThree { branch, paths } => Ok(Evidence::ThreeThree { branch: *branch, paths: paths.copy(alloc)? }),
-            Evidence::Extension { list } => Ok(Evidence::Extension { list: copied(alloc, list)? }),
+            Evidence::Five { branch, paths } => Ok(Evidence::Five {
+                branch: *branch,
+                paths: paths.copy(alloc)?,
+            }),
+            Evidence::ThreeThree { branch, paths } => Ok(Evidence::ThreeThree {
+                branch: *branch,
+                paths: paths.copy(alloc)?,
+            }),
+            Evidence::Extension { list } => Ok(Evidence::Extension {
+                list: copied(alloc, list)?,
+            }),
         }
     }
 }
@@ -107,6 +119,10 @@ impl Row {
         let edges = copied(alloc, &self.edges)?;
         let orders = self.orders.copy(alloc)?;
         let evidence = self.evidence.copy(alloc)?;
-        Ok(Row { edges, orders, evidence })
+        Ok(Row {
+            edges,
+            orders,
+            evidence,
+        })
     }
 }

@@ -37,7 +37,10 @@ impl Node {
         match self {
             Node::Pair(e, f) => Ok(Node::Pair(*e, *f)),
             Node::Place(e, f) => Ok(Node::Place(*e, *f)),
-            Node::Leaf { d, parts } => Ok(Node::Leaf { d: *d, parts: copied(alloc, parts)? }),
+            Node::Leaf { d, parts } => Ok(Node::Leaf {
+                d: *d,
+                parts: copied(alloc, parts)?,
+            }),
         }
     }
 }

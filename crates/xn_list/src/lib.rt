@@ -3,7 +3,6 @@
 
 mod nested;
 mod plain;
-
 #[cfg(test)]
 mod tests;
 
