@@ -18,14 +18,14 @@ unreachable-requires-in-Err-Length c =
     let web = graph_of c.args.front.nodes c.args.front.ends.items in
     let same : c.in-Ok.web ≡ web = (OkIff-at_ok c.make.result (IsLimitedWeb web) web c.in-Ok.web c.make.ensures.ok c.in-Ok.is).1 in
     let long = ap length (c.deref.ensures.value ∙ c.in_ok-next.ensures) ∙ turns_fit (said c.args.front) c.requires ∙ ap (λ (w : Graph). 2 * length w.ends) (sym same) in
-    c.in-Err-Length.ensures.length (ap (λ e. Err e) c.in-Err-Length.field-0-is) long
+    c.in-Err-Length.ensures.length.0 (ap (λ e. Err e) c.in-Err-Length.field-0-is) long
 
 pub returns-in-Err-Rotation : goal.returns-in-Err-Rotation
 returns-in-Err-Rotation c =
     let web = graph_of c.args.front.nodes c.args.front.ends.items in
     let same : c.in-Ok.web ≡ web = (OkIff-at_ok c.make.result (IsLimitedWeb web) web c.in-Ok.web c.make.ensures.ok c.in-Ok.is).1 in
     let d = c.in-Err-Rotation.dart in
-    let flaw : IsRotationFlaw c.in-Ok.web.ends (at c.deref.result.now) d = c.in-Err-Rotation.ensures.rotation d (ap (λ e. Err e) c.in-Err-Rotation.field-0-is) in
+    let flaw : IsRotationFlaw c.in-Ok.web.ends (at c.deref.result.now) d = (c.in-Err-Rotation.ensures.rotation d (ap (λ e. Err e) c.in-Err-Rotation.field-0-is)).1 in
     let moved = subst (λ (w : Graph). IsRotationFlaw w.ends (at c.deref.result.now) d) same flaw in
     let turned = subst (λ (next : List ℕ). IsRotationFlaw web.ends (at next) d) (c.deref.ensures.value ∙ c.in_ok-next.ensures) moved in
     rw (c.refused.ensures, c.in-Err-Rotation.dart-is) (refl, turned)
