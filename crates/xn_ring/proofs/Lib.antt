@@ -1,0 +1,14 @@
+pub mod Agreeing
+pub mod Counting
+pub mod Halves
+pub mod Inverse
+pub mod Marked
+pub mod Marks
+pub mod Orbits
+pub mod Renumbering
+pub mod Restriction
+pub mod Skipping
+pub mod Splice
+pub mod SplitRing
+pub mod Transfer
+pub mod Without
