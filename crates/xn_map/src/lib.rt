@@ -11,3 +11,6 @@ mod rotation;
 
 pub use corners::Corner;
 pub use maps::{Map, MapErr};
+
+#[cfg(test)]
+mod tests;
