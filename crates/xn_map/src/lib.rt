@@ -5,6 +5,7 @@ mod components;
 mod corners;
 mod darts;
 mod faces;
+pub mod laws;
 mod lone;
 mod maps;
 mod rotation;
