@@ -44,7 +44,7 @@ impl Orders {
         self.lists.at(i)
     }
 
-    /// The same orders again.
+    /// The same orders again. It fails only for want of memory.
     pub fn copy(&self, alloc: Global) -> Result<Orders, AllocError>
         ensures { IfOk result (λ copy. copy ≡ self.now) }
     {
@@ -64,7 +64,7 @@ pub struct Drawing {
 }
 
 impl Drawing {
-    /// The same drawing again.
+    /// The same drawing again. It fails only for want of memory.
     pub fn copy(&self, alloc: Global) -> Result<Drawing, AllocError>
         ensures { IfOk result (λ copy. copy ≡ self.now) }
     {

@@ -9,7 +9,8 @@ pub enum DrawFlaw {
     Order(u32, u32),
     /// The second stands in the list of the first, and they aren't independent.
     Dependent(u32, u32),
-    /// What follows this dart is no dart, or one at another node, or follows a smaller dart too; or else the dart is in another cycle than the least dart of its node.
+    /// What follows this dart is no dart, or one at another node, or follows a smaller dart too; or else, where this is so of
+    /// no dart, the first dart in another cycle than the least dart of its node.
     Rotation(u32),
     /// The edges, the smaller first, touch at their crossing.
     Touch(u32, u32),

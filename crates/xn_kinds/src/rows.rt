@@ -45,7 +45,7 @@ impl Paths {
         self.lists.at(i)
     }
 
-    /// The same paths again.
+    /// The same paths again. It fails only for want of memory.
     pub fn copy(&self, alloc: Global) -> Result<Paths, AllocError>
         ensures { IfOk result (λ copy. copy ≡ self.now) }
     {
@@ -80,7 +80,7 @@ pub enum Evidence {
 }
 
 impl Evidence {
-    /// The same evidence again.
+    /// The same evidence again. It fails only for want of memory.
     pub fn copy(&self, alloc: Global) -> Result<Evidence, AllocError>
         ensures { IfOk result (λ copy. copy ≡ self.now) }
     {
@@ -112,7 +112,7 @@ pub struct Row {
 }
 
 impl Row {
-    /// The same row again.
+    /// The same row again. It fails only for want of memory.
     pub fn copy(&self, alloc: Global) -> Result<Row, AllocError>
         ensures { IfOk result (λ copy. copy ≡ self.now) }
     {

@@ -9,7 +9,8 @@ use xn_list::{Sequence, copied};
 pub enum Var {
     /// Whether the two edges cross, the smaller first.
     Cross(u32, u32),
-    /// Whether both the second and the third edge cross the first, and the second stands before the third along it. The second is smaller than the third.
+    /// Whether the second and the third edge, the smaller first, both cross the first, and the second stands before the third
+    /// along it.
     Before(u32, u32, u32),
 }
 
@@ -30,7 +31,7 @@ pub enum Node {
 }
 
 impl Node {
-    /// The same node again.
+    /// The same node again. It fails only for want of memory.
     pub fn copy(&self, alloc: Global) -> Result<Node, AllocError>
         ensures { IfOk result (λ copy. copy ≡ self.now) }
     {
@@ -83,7 +84,7 @@ impl Tree {
         &self.nodes[i]
     }
 
-    /// The same tree again.
+    /// The same tree again. It fails only for want of memory.
     pub fn copy(&self, alloc: Global) -> Result<Tree, AllocError>
         ensures { IfOk result (λ copy. copy ≡ self.now) }
     {

@@ -42,7 +42,7 @@ impl Lists {
         self.lists[i].as_slice()
     }
 
-    /// The same lists again.
+    /// The same lists again. It fails only for want of memory.
     pub fn copy(&self, alloc: Global) -> Result<Lists, AllocError>
         ensures { IfOk result (λ copy. copy ≡ self.now) }
     {

@@ -48,7 +48,7 @@ impl<T> Sequence<T> {
     }
 }
 
-/// The same list again.
+/// The same list again. It fails only for want of memory.
 pub fn copied<T: Copy>(alloc: Global, list: &Sequence<T>) -> Result<Sequence<T>, AllocError>
     ensures { IfOk result (λ copy. copy ≡ list.now) }
 {
