@@ -5,8 +5,8 @@ ghost use Rattle.xn_proof.specs.Plain.{said, IsPlain};
 
 use std::alloc::Global;
 use xn_graph::{Euler, Web};
-use xn_map::{Map, MapErr};
 use xn_kinds::{DrawFlaw, Flaw, FlawKind};
+use xn_map::{Map, MapErr};
 use xn_proof::{AnswerErr, Front, read_front, read_tail};
 
 /// The counts of the drawing that a plain answer has, or the first line that fails and why.

@@ -26,11 +26,15 @@ pub fn flaw_line(alloc: Global, flaw: &Flaw) -> Result<String, AllocError>
     match flaw.kind {
         FlawKind::Unread => format!(in alloc; "refused {line} unread\n"),
         FlawKind::Draw(DrawFlaw::Length) => format!(in alloc; "refused {line} length\n"),
-        FlawKind::Draw(DrawFlaw::Order(e, f)) => format!(in alloc; "refused {line} order {e} {f}\n"),
+        FlawKind::Draw(DrawFlaw::Order(e, f)) => format!(in alloc;
+            "refused {line} order {e} {f}\n"
+        ),
         FlawKind::Draw(DrawFlaw::Dependent(e, f)) => format!(in alloc;
             "refused {line} dependent {e} {f}\n"
         ),
-        FlawKind::Draw(DrawFlaw::Touch(e, f)) => format!(in alloc; "refused {line} touch {e} {f}\n"),
+        FlawKind::Draw(DrawFlaw::Touch(e, f)) => format!(in alloc;
+            "refused {line} touch {e} {f}\n"
+        ),
         FlawKind::Draw(DrawFlaw::Rotation(dart)) => format!(in alloc;
             "refused {line} rotation {dart}\n"
         ),

@@ -147,7 +147,7 @@ tail_is i text e =
     let g = guard (eqb (length d.0) 0) (unread (i + 4)) (ok tt) tt d.2 in
     let none = empty_of d.0 g.0 in
     let all = four text (line (codes "rows 0")) r.0 (line (codes "tree")) t.0 (line (codes "leaf 1 0")) l.0 (line (codes "end")) d.0
-      (fixed_takes (codes "rows 0") i text r.0 r.1) (fixed_takes (codes "tree") (i + 1) r.0 t.0 t.1) (fixed_takes (codes "leaf 1 0") (i + 2) t.0 l.0 l.1) (fixed_takes (codes "end") (i + 3) l.0 d.0 d.1) in
+    (fixed_takes (codes "rows 0") i text r.0 r.1) (fixed_takes (codes "tree") (i + 1) r.0 t.0 t.1) (fixed_takes (codes "leaf 1 0") (i + 2) t.0 l.0 l.1) (fixed_takes (codes "end") (i + 3) l.0 d.0 d.1) in
     all ∙ ap (λ (x : List ℕ). (line (codes "rows 0") ++ (line (codes "tree") ++ (line (codes "leaf 1 0") ++ line (codes "end")))) ++ x) none ∙ append-nil _
 
 pub read_is_spelled : (p : Plain) (text rest : List ℕ) → front_at text ≡ Ok (p, rest) → tail_at (drawn_line p + 1) rest ≡ Ok tt → IsPlain p × (text ≡ text_of p)
