@@ -1,4 +1,5 @@
 pub mod Corners
+pub mod Faces
 pub mod Forest
 pub mod Listed
 pub mod Marks

@@ -1,8 +1,9 @@
 -- Maps whose successors are listed.
-use Rattle.std.specs.Prelude.{◌≡◌, ℕ, ◌*◌, List, length}
+use Rattle.std.specs.Prelude.{◌≡◌, ℕ, ◌+◌, ◌*◌, List, length}
 use Rattle.xn_model.specs.Graph.{Graph}
 use Rattle.xn_model.specs.Lists.{at}
-use Rattle.xn_model.specs.Map.{IsMap}
+use Rattle.xn_model.specs.Map.{IsFlat, IsMap, component_count, face_count}
+use Rattle.xn_graph.specs.declared.counts.Euler.{Euler}
 
 -- a web, and for each dart the next one round its node
 pub record ListedMap : Type 0 where
@@ -17,3 +18,19 @@ map_of web next = record { web = web; next = next }
 pub record IsListedMap (m : ListedMap) : Type 0 where
   pub fits : length m.next ≡ 2 * length m.web.ends
   pub is_map : IsMap m.web.nodes m.web.ends (at m.next)
+
+-- the number of its faces
+abbrev pub faces_of : ListedMap → ℕ
+faces_of m = face_count m.web.nodes m.web.ends (at m.next)
+
+-- the number of its components
+abbrev pub components_of : ListedMap → ℕ
+components_of m = component_count m.web.nodes m.web.ends
+
+-- it has genus zero
+abbrev pub IsFlatListed : ListedMap → Type 0
+IsFlatListed m = IsFlat m.web.nodes m.web.ends (at m.next)
+
+-- the two sides of V + F = 2C + E, added
+abbrev pub sum_of : Euler → ℕ
+sum_of counts = counts.v + counts.f + (2 * counts.c + counts.e)

@@ -1,5 +1,6 @@
 -- Where a list of successors is first no rotation.
-use Rattle.std.specs.Prelude.{◌≡◌, ◌≢◌, ℕ, ◌*◌, ◌<◌, ◌≤◌, ◌⊎◌, ◌↔◌, Bool, true, List, length}
+use Rattle.std.specs.Prelude.{◌≡◌, ◌≢◌, ℕ, ◌*◌, ◌<◌, ◌≤◌, ◌⊎◌, ◌↔◌, Bool, true, List, Option, MatchOption, length}
+use Rattle.xn_model.specs.Graph.{Graph}
 use Rattle.xn_model.specs.Map.{IsMap, tail_of}
 use Rattle.xn_model.specs.Permutation.{Reaches}
 use Rattle.xn_map.specs.Marks.{is_marked}
@@ -30,6 +31,10 @@ AreTogether ends next = (d : ℕ) → d < 2 * length ends → ¬ (IsApart ends n
 abbrev pub IsRotationFlaw : List (ℕ × ℕ) → (ℕ → ℕ) → ℕ → Type 0
 IsRotationFlaw ends next d =
     (d < 2 * length ends) × (IsFirst (LeadsWrong ends next) d ⊎ (LeadsRight ends next × IsFirst (IsApart ends next) d))
+
+-- the dart that is the flaw, if there is one; else a map
+abbrev pub IsFlawOrMap : Graph → (ℕ → ℕ) → Option ℕ → Type 0
+IsFlawOrMap web next flaw = MatchOption flaw (IsMap web.nodes web.ends next) (IsRotationFlaw web.ends next)
 
 -- exactly the darts to which next leads a dart below d are marked
 abbrev pub MarksTargets : ℕ → (ℕ → ℕ) → ℕ → List Bool → Type 0

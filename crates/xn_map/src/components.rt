@@ -1,17 +1,16 @@
 // Components by a forest in which each tree holds the nodes of one component under their least.
-ghost use Rattle.std.specs.Prelude.{◌≡◌, ℕ, ◌+◌, ◌^◌, ◌<◌, ◌≤◌, ◌↔◌, ◌==◌, length, IfOk, IsTrue};
+ghost use Rattle.std.specs.Prelude.{◌≡◌, ◌^◌, ◌<◌, ◌≤◌, ◌↔◌, length, IfOk, IsTrue};
 ghost use Rattle.std.specs.List.{count_by, range_with_len};
 ghost use Rattle.xn_model.specs.Lists.{at};
-ghost use Rattle.xn_model.specs.Map.{component_count, component_labels, relabel};
-ghost use Rattle.xn_model.specs.Permutation.{count_below};
-ghost use Rattle.xn_map.specs.Forest.{HoldsComponents, IsForest, root_of};
+ghost use Rattle.xn_model.specs.Map.{component_count};
+ghost use Rattle.xn_map.specs.Forest.{HaveOneLabel, HoldsComponents, IsForest, JoinsTrees, KeepsRoots, is_root, root_of};
 
 use std::alloc::{AllocError, Global};
 use xn_graph::Web;
 
 /// The number of components of a web.
 pub fn component_count(alloc: Global, web: &Web) -> Result<u64, AllocError>
-    ensures components { IfOk result (λ count. count ≡ component_count web.now.nodes web.now.ends) }
+    ensures count { IfOk result (λ count. count ≡ component_count web.now.nodes web.now.ends) }
     ensures few { IfOk result (λ count. count ≤ 2 ^ 30) }
 {
     let parents = forest(alloc, web)?;
@@ -22,8 +21,7 @@ pub fn component_count(alloc: Global, web: &Web) -> Result<u64, AllocError>
 pub fn in_one_component(alloc: Global, web: &Web, u: u32, v: u32) -> Result<bool, AllocError>
     requires u_in { u < web.now.nodes }
     requires v_in { v < web.now.nodes }
-    ensures { IfOk result (λ one. IsTrue one ↔
-        (at (component_labels web.now.nodes web.now.ends) u ≡ at (component_labels web.now.nodes web.now.ends) v)) }
+    ensures { IfOk result (λ one. IsTrue one ↔ HaveOneLabel web.now u v) }
 {
     let mut parents = forest(alloc, web)?;
     let of_u = root(&mut parents, u);
@@ -62,7 +60,7 @@ fn join_ends(parents: &mut [u32], web: &Web)
 // The number of roots.
 fn root_count(parents: &[u32]) -> usize
     requires { length parents.now < 2 ^ 32 }
-    ensures roots { result ≡ count_by (λ v. at parents.now v == v) (range_with_len 0 (length parents.now)) }
+    ensures roots { result ≡ count_by (is_root parents.now) (range_with_len 0 (length parents.now)) }
     ensures few { result ≤ length parents.now }
 {
     (0..parents.len() as u32)
@@ -76,8 +74,7 @@ fn join(parents: &mut [u32], u: u32, v: u32)
     requires u_in { u < length parents.old }
     requires v_in { v < length parents.old }
     ensures forest { IsForest parents.new }
-    ensures joined { (w : ℕ) → w < length parents.old →
-        root_of parents.new w ≡ relabel (root_of parents.old u) (root_of parents.old v) (root_of parents.old w) }
+    ensures joined { JoinsTrees parents.old parents.new u v }
 {
     let a = root(parents, u);
     let b = root(parents, v);
@@ -92,7 +89,7 @@ fn root(parents: &mut [u32], v: u32) -> u32
     ensures root { result ≡ root_of parents.old v }
     ensures own { at parents.new result ≡ result }
     ensures within { result < length parents.old }
-    ensures kept { (w : ℕ) → w < length parents.old → root_of parents.new w ≡ root_of parents.old w }
+    ensures kept { KeepsRoots parents.old parents.new }
 {
     let mut w = v;
     while parents[w as usize] != w {

@@ -2,7 +2,8 @@
 ghost use Rattle.std.specs.Prelude.{◌≡◌, ◌%◌, ◌^◌, ◌<◌, ◌≤◌, ◌↔◌, false, length, replicate, IfOk, IsTrue};
 ghost use Rattle.xn_model.specs.Lists.{at};
 ghost use Rattle.xn_model.specs.Map.{face_step};
-ghost use Rattle.xn_model.specs.Permutation.{Permutes, Reaches, cycle_count};
+ghost use Rattle.xn_model.specs.Permutation.{Permutes, Reaches};
+ghost use Rattle.xn_map.specs.Faces.{face_cycles_of};
 ghost use Rattle.xn_map.specs.Marks.{IsClosed, MarksCycle, is_marked};
 
 use std::alloc::{AllocError, Global};
@@ -11,7 +12,7 @@ use xn_ring::Rings;
 /// The number of cycles of the face walk.
 pub fn face_cycle_count(alloc: Global, rings: &Rings) -> Result<u64, AllocError>
     requires { length rings.now % 2 ≡ 0 }
-    ensures cycles { IfOk result (λ count. count ≡ cycle_count (length rings.now) (face_step (at rings.now))) }
+    ensures cycles { IfOk result (λ count. count ≡ face_cycles_of rings.now) }
     ensures few { IfOk result (λ count. count ≤ 2 ^ 31) }
 {
     let mut marks = vec![in alloc; false; rings.len() as usize]?;
@@ -22,7 +23,7 @@ pub fn face_cycle_count(alloc: Global, rings: &Rings) -> Result<u64, AllocError>
 fn mark_faces(marks: &mut [bool], rings: &Rings) -> u32
     requires even { length rings.now % 2 ≡ 0 }
     requires none { marks.old ≡ replicate (length rings.now) false }
-    ensures cycles { result ≡ cycle_count (length rings.now) (face_step (at rings.now)) }
+    ensures cycles { result ≡ face_cycles_of rings.now }
     ensures few { result ≤ length rings.now }
 {
     let mut count = 0;

@@ -1,9 +1,9 @@
 ghost use Rattle.std.specs.Prelude.{◌≡◌, ◌≢◌, ℕ, ◌+◌, ◌*◌, ◌^◌, ◌<◌, ◌≤◌, ◌↔◌, IfOk, IsErrOf, IsTrue, length};
 ghost use Rattle.xn_model.specs.Lists.{at};
-ghost use Rattle.xn_model.specs.Map.{IsFlat, Joined, component_count, face_count, tail_of};
+ghost use Rattle.xn_model.specs.Map.{Joined, tail_of};
 ghost use Rattle.xn_graph.specs.Counts.{euler_of};
 ghost use Rattle.xn_map.specs.Corners.{InOneFace, IsCorner};
-ghost use Rattle.xn_map.specs.Listed.{IsListedMap, map_of};
+ghost use Rattle.xn_map.specs.Listed.{IsFlatListed, IsListedMap, components_of, faces_of, map_of, sum_of};
 ghost use Rattle.xn_map.specs.Rotation.{IsRotationFlaw};
 ghost use Rattle.xn_map.specs.declared.maps.MapErr.TheVariants.{Memory};
 
@@ -25,8 +25,8 @@ pub enum MapErr {
     /// The list hasn't two entries for each segment.
     #[error("not two successors for each segment")]
     Length,
-    /// The least dart whose successor is no dart, is at another node, or is that of a smaller dart too. If there is none,
-    /// the least dart that isn't in the ring of the least dart at its node.
+    /// The least dart whose successor is no dart, is at another node, or is that of a smaller dart.
+    /// If there is none, the least dart that isn't in the ring of the least dart at its node.
     #[error("no rotation at dart {0}")]
     Rotation(u32),
     /// There is no memory.
@@ -42,10 +42,11 @@ impl From<AllocError> for MapErr {
     }
 }
 
-/// A map: a web with a rotation at each node, seen as the web and the list of successors (a rotation system).
+/// A map: a web with a rotation at each node (a rotation system).
 ///
-/// Segment s has the dart 2s at its first end and the dart 2s + 1 at its second. `next` turns counterclockwise round a
-/// node, once through all its darts.
+/// Segment s has the dart 2s at its first end and the dart 2s + 1 at its second. `next` turns
+/// counterclockwise round a node, once through all its darts. Contracts see a map as its web and
+/// the list of the successors.
 #[derive(Drop)]
 pub struct Map {
     web: Web,
@@ -65,7 +66,8 @@ impl Model for Map {
 impl Map {
     /// The map of a web in which dart d is followed by entry d of the list.
     pub fn make(alloc: Global, web: Web, next: &[u32]) -> Result<Map, MapErr>
-        ensures ok { IfOk result (λ m. (m ≡ map_of web next.now) × IsListedMap m) }
+        ensures ok { IfOk result (λ m. m ≡ map_of web next.now) }
+        ensures is_map { IfOk result IsListedMap }
         ensures length { IsErrOf result MapErr.Length ↔ (length next.now ≢ 2 * length web.ends) }
         ensures rotation { (d : ℕ) → IsErrOf result (MapErr.Rotation d) →
             (length next.now ≡ 2 * length web.ends) × IsRotationFlaw web.ends (at next.now) d }
@@ -106,10 +108,10 @@ impl Map {
         darts::tail(&self.web, d)
     }
 
-    /// The number of faces: of the cycles of the walk from a dart to the successor of its reverse, and of the nodes
-    /// without darts.
+    /// The number of faces: of the cycles of the walk from a dart to the successor of its reverse,
+    /// and of the nodes without darts.
     pub fn faces(&self, alloc: Global) -> Result<u64, AllocError>
-        ensures count { IfOk result (λ f. f ≡ face_count self.now.web.nodes self.now.web.ends (at self.now.next)) }
+        ensures count { IfOk result (λ f. f ≡ faces_of self.now) }
         ensures few { IfOk result (λ f. f ≤ 3 * 2 ^ 30) }
     {
         let cycles = face_cycle_count(alloc, &self.rings)?;
@@ -119,7 +121,7 @@ impl Map {
 
     /// The number of connected components.
     pub fn parts(&self, alloc: Global) -> Result<u64, AllocError>
-        ensures count { IfOk result (λ c. c ≡ component_count self.now.web.nodes self.now.web.ends) }
+        ensures count { IfOk result (λ c. c ≡ components_of self.now) }
         ensures few { IfOk result (λ c. c ≤ 2 ^ 30) }
     {
         component_count(alloc, &self.web)
@@ -128,7 +130,7 @@ impl Map {
     /// The numbers of nodes, segments, faces and components (Euler).
     pub fn euler(&self, alloc: Global) -> Result<Euler, AllocError>
         ensures counts { IfOk result (λ counts. counts ≡ euler_of self.now.web (at self.now.next)) }
-        ensures few { IfOk result (λ counts. counts.v + counts.f + 2 * counts.c + counts.e ≤ 7 * 2 ^ 30) }
+        ensures few { IfOk result (λ counts. sum_of counts ≤ 7 * 2 ^ 30) }
     {
         let f = self.faces(alloc)?;
         let c = self.parts(alloc)?;
@@ -142,7 +144,7 @@ impl Map {
 
     /// Whether the map has genus zero.
     pub fn is_flat(&self, alloc: Global) -> Result<bool, AllocError>
-        ensures { IfOk result (λ flat. IsTrue flat ↔ IsFlat self.now.web.nodes self.now.web.ends (at self.now.next)) }
+        ensures { IfOk result (λ flat. IsTrue flat ↔ IsFlatListed self.now) }
     {
         let counts = self.euler(alloc)?;
         Ok(counts.v + counts.f == 2 * counts.c + counts.e)

@@ -1,10 +1,9 @@
 // Whether a list of successors turns round each node, once through all its darts.
 ghost use Rattle.std.specs.Prelude.{◌≡◌, ℕ, ◌+◌, ◌*◌, ◌^◌, ◌<◌, ◌≤◌, ◌↔◌, false, length, replicate, IfOk, IsTrue, MatchOption};
 ghost use Rattle.xn_model.specs.Lists.{at};
-ghost use Rattle.xn_model.specs.Map.{IsMap};
 ghost use Rattle.xn_model.specs.Permutation.{Permutes};
 ghost use Rattle.xn_map.specs.Marks.{IsClosed, MarksCycle, is_marked};
-ghost use Rattle.xn_map.specs.Rotation.{AreTogether, IsApart, IsFirst, IsRotationFlaw, LeadsRight, LeadsWrong, MarksTargets};
+ghost use Rattle.xn_map.specs.Rotation.{AreTogether, IsApart, IsFirst, IsFlawOrMap, LeadsRight, LeadsWrong, MarksTargets};
 
 use crate::darts::tail;
 use std::alloc::{AllocError, Global};
@@ -14,8 +13,7 @@ use xn_ring::Rings;
 /// The dart at which the successors are first no rotation, if there is one.
 pub fn rotation_flaw(alloc: Global, web: &Web, next: &[u32]) -> Result<Option<u32>, AllocError>
     requires { length next.now ≡ 2 * length web.now.ends }
-    ensures { IfOk result (λ flaw. MatchOption flaw
-        (IsMap web.now.nodes web.now.ends (at next.now)) (IsRotationFlaw web.now.ends (at next.now))) }
+    ensures { IfOk result (IsFlawOrMap web.now (at next.now)) }
 {
     let mut taken = vec![in alloc; false; next.len()]?;
     if let Some(d) = first_wrong(taken.as_mut_slice(), web, next) {
@@ -103,7 +101,7 @@ pub fn rings_of(alloc: Global, next: &[u32]) -> Result<Rings, AllocError>
     Ok(rings)
 }
 
-// Gives each dart in turn its successor. The smaller ones keep theirs, since no two have one successor.
+// Gives each dart in turn its successor. The smaller ones keep theirs, since no two share one.
 fn link(rings: &mut Rings, next: &[u32])
     requires permutes { Permutes (length next.now) (at next.now) }
     requires same_length { length rings.old ≡ length next.now }

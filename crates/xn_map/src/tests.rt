@@ -1,4 +1,5 @@
-//! Stated maps: the drawing of K4, the same web on a torus, two lone nodes, and lists that are no rotation.
+//! Stated maps: the drawing of K4, the same web on a torus, two lone nodes; and lists that are no
+//! rotation.
 use super::*;
 use std::alloc::Global;
 use std::test::Fail;

@@ -6,8 +6,8 @@ use Rattle.xn_map.proofs.Counting.{count_by-range}
 use Rattle.xn_map.proofs.Forest.{count-roots}
 use Rattle.xn_map.proofs.components.component_count.Goals as goal
 
-pub returns-clause-components : goal.returns-clause-components
-returns-clause-components c =
+pub returns-clause-count : goal.returns-clause-count
+returns-clause-count c =
     let web = c.args.web.now in
     let parents = c.deref.result.now in
     let P : List ℕ → Type 0 = λ l. HoldsComponents l web in
