@@ -1,5 +1,5 @@
 -- A text that is read as a plain answer is its spelling.
-use Rattle.std.proofs.Common.{◌≡◌, ℕ, ◌+◌, ◌*◌, ◌^◌, ◌<◌, ◌≤◌, Bool, true, false, cond, eqb, List, [], ◌∷◌, ◌++◌, length, Result, Ok, Err, refl, sym, ap, ◌∙◌, subst, append_assoc, arith}
+use Rattle.std.proofs.Common.{◌≡◌, ℕ, ◌+◌, ◌^◌, ◌<◌, ◌≤◌, true, cond, eqb, List, [], ◌∷◌, ◌++◌, length, Result, Ok, Err, refl, sym, ap, ◌∙◌, subst, append_assoc, arith}
 use Rattle.std.proofs.lemmas.Bool.{eqb-true}
 use Rattle.std.proofs.lemmas.List.{append-nil}
 use Rattle.std.specs.Prelude.{codes, ◌≢◌}
@@ -9,7 +9,7 @@ use Rattle.xn_proof.specs.Plain.{Plain, IsPlain, Head, head_at, effort_from, dra
 use Rattle.xn_proof.specs.Reading.{◌>>=◌, unread, fixed_at, one_at, many_at, same_at}
 use Rattle.xn_proof.specs.Spelling.{line, one_line, two_line, each, times, head_text, drawing_text, tail_text, text_of}
 use Rattle.xn_proof.proofs.Steps.{bind_ok, guard, ok, ok_is}
-use Rattle.xn_proof.proofs.Takes.{Many, fixed_takes, one_takes, graph_takes, edge_takes, effort_takes, turn_takes, many_takes, same_takes}
+use Rattle.xn_proof.proofs.Takes.{fixed_takes, one_takes, graph_takes, edge_takes, effort_takes, turn_takes, many_takes, same_takes}
 
 abbrev EdgeFits : ℕ → ℕ × ℕ → Type 0
 EdgeFits nodes e = (e.0 < nodes) × (e.1 < nodes) × (e.0 ≢ e.1)

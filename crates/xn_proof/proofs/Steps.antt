@@ -1,5 +1,5 @@
 -- Steps of reading that did not fail.
-use Rattle.std.proofs.Common.{◌≡◌, ℕ, zero, suc, ◌<◌, Bool, true, false, cond, List, ◌∷◌, get_or, length, Result, Ok, Err, refl, arith}
+use Rattle.std.proofs.Common.{◌≡◌, zero, suc, Bool, true, false, cond, List, ◌∷◌, Result, Ok, Err, refl, arith}
 use Rattle.std.specs.List.{All}
 use Rattle.xn_kinds.specs.declared.flaws.Flaw.{Flaw}
 use Rattle.xn_proof.specs.Reading.{◌>>=◌}
