@@ -1,5 +1,5 @@
 -- What an end says of a told file, and of what was written.
-use Rattle.std.proofs.Common.{◌≡◌, ℕ, ◌<◌, List, length, take, Option, None, Some, IfSome, Result, Ok, Err, refl, sym, ap, subst, ◌∙◌}
+use Rattle.std.proofs.Common.{◌≡◌, ℕ, ◌<◌, List, length, take, Option, None, Some, IfSome, Result, Ok, Err, sym, subst, ◌∙◌}
 use Rattle.std.specs.Io.KnownBytes.{Appends}
 use Rattle.xn_io.specs.Input.{Files, bytes_of, AreAllOf}
 use Rattle.xn_io.specs.Sink.{TakesPart}
@@ -8,9 +8,9 @@ use Rattle.xn_kinds.specs.declared.flaws.Flaw.{Flaw}
 use Rattle.xn_app.specs.declared.status.Status.{Status}
 use Rattle.xn_app.specs.declared.status.Status.TheVariants.{Done, Refused}
 use Rattle.xn_app.specs.Ends.{EndsWith, SaysDrawing, SaysFlaw, WroteFor}
-use Rattle.xn_app.specs.Output.{output_of, seen_line, flaw_line}
+use Rattle.xn_app.specs.Output.{output_of}
 use Rattle.xn_app.specs.Status.{status_of}
-use Rattle.xn_app.specs.Verdict.{Verdict, IsPlainDrawing}
+use Rattle.xn_app.specs.Verdict.{Verdict}
 use Rattle.xn_app.proofs.Verdicts.{counts_are_of_drawings, drawings_are_taken}
 
 -- what is said of the text that was read is said of the told bytes

@@ -1,7 +1,6 @@
 -- A plain answer has a web within the limits, and two turns for each segment.
-use Rattle.std.proofs.Common.{◌≡◌, ℕ, suc, ◌+◌, ◌*◌, ◌<◌, ◌≤◌, List, [], ◌∷◌, length, refl, arith}
-use Rattle.xn_model.specs.Graph.{ends_at}
-use Rattle.xn_graph.specs.Limits.{IsLimitedWeb, HasNodes}
+use Rattle.std.proofs.Common.{◌≡◌, ℕ, ◌*◌, List, [], ◌∷◌, length, refl, arith}
+use Rattle.xn_graph.specs.Limits.{IsLimitedWeb}
 use Rattle.xn_graph.proofs.Ends.{EndsIn-from_each}
 use Rattle.xn_proof.specs.Plain.{Plain, IsPlain, next_of}
 use Rattle.xn_app.specs.Verdict.{graph_of}

@@ -1,20 +1,18 @@
 -- The verdict in the words of the answer.
-use Rattle.std.proofs.Common.{◌≡◌, ◌≢◌, ℕ, ◌+◌, ◌*◌, ◌<◌, ◌≤◌, ◌⊎◌, inl, inr, List, length, Option, None, Some, IfSome, Result, Ok, Err, refl, sym, ap, subst, ◌∙◌, arith}
+use Rattle.std.proofs.Common.{◌≡◌, ℕ, ◌+◌, ◌*◌, ◌<◌, inl, inr, List, length, Result, Ok, Err, refl, sym, ap, subst, ◌∙◌, arith}
 use Rattle.std.proofs.lemmas.Bool.{cases_lt}
 use Rattle.xn_model.specs.Map.{IsMap, IsFlatMap, tail_of}
-use Rattle.xn_model.specs.Permutation.{Reaches}
-use Rattle.xn_graph.specs.Counts.{euler_of, IsBalanced}
+use Rattle.xn_graph.specs.Counts.{IsBalanced}
 use Rattle.xn_graph.specs.declared.counts.Euler.{Euler}
 use Rattle.xn_kinds.specs.declared.flaws.DrawFlaw.TheVariants.{Length, Order, Dependent, Rotation, Touch, Genus}
 use Rattle.xn_kinds.specs.declared.flaws.Flaw.{Flaw}
 use Rattle.xn_kinds.specs.declared.flaws.FlawKind.{FlawKind}
 use Rattle.xn_kinds.specs.declared.flaws.FlawKind.TheVariants.{Unread, Draw}
-use Rattle.xn_map.specs.Rotation.{IsFirst, LeadsWrong, LeadsRight, IsApart, IsRotationFlaw}
-use Rattle.xn_proof.specs.Plain.{Plain, IsPlain, front_at, tail_at, drawn_line}
-use Rattle.xn_proof.specs.Spelling.{text_of}
+use Rattle.xn_map.specs.Rotation.{IsFirst, IsRotationFlaw}
+use Rattle.xn_proof.specs.Plain.{Plain, front_at, tail_at, drawn_line}
 use Rattle.xn_proof.proofs.Read.{read_is_spelled}
 use Rattle.xn_proof.proofs.Spelled.{spelled_is_read}
-use Rattle.xn_app.specs.Verdict.{graph_of, turns_of, counts_of, IsPlainDrawing, TurnsFail, AfterDrawn, AfterFront, Verdict}
+use Rattle.xn_app.specs.Verdict.{graph_of, turns_of, IsPlainDrawing, TurnsFail, AfterDrawn, AfterFront, Verdict}
 
 -- a map has no rotation flaw
 no_rotation_flaw : (nodes : ℕ) (ends : List (ℕ × ℕ)) (next : ℕ → ℕ) (d : ℕ) → IsMap nodes ends next → IsRotationFlaw ends next d → ⊥

@@ -1,5 +1,5 @@
 -- What an end says of the text, and of what was written.
-use Rattle.std.specs.Prelude.{◌≡◌, ◌<◌, ℕ, List, Option, Result, Ok, Err, length, take}
+use Rattle.std.specs.Prelude.{◌≡◌, ◌<◌, ℕ, List, Option, Result, Err, length, take}
 use Rattle.std.specs.Io.KnownBytes.{Appends}
 use Rattle.xn_graph.specs.declared.counts.Euler.{Euler}
 use Rattle.xn_kinds.specs.declared.flaws.Flaw.{Flaw}
