@@ -1,8 +1,11 @@
+pub mod Compress
 pub mod Counts
 pub mod Dies
 pub mod Euler
 pub mod Kept
 pub mod Lone
+pub mod Part
 pub mod Parted
 pub mod Pushed
 pub mod Restrict
+pub mod Tests

@@ -1,5 +1,5 @@
 -- Nodes without darts.
-use Rattle.std.proofs.Common.{◌≡◌, ℕ, suc, ◌+◌, ◌*◌, ◌<◌, inl, inr, Bool, true, false, not, ◌&&◌, ◌||◌, eqb, List, [], ◌∷◌, ◌++◌, length, refl, sym, ◌∙◌, ap, arith}
+use Rattle.std.proofs.Common.{◌≡◌, ℕ, suc, ◌+◌, ◌*◌, ◌<◌, ◌⊎◌, inl, inr, Bool, true, false, not, ◌&&◌, ◌||◌, eqb, List, [], ◌∷◌, ◌++◌, length, refl, sym, ◌∙◌, ap, arith}
 use Rattle.std.specs.List.{list_any}
 use Rattle.std.proofs.lemmas.Bool.{eqb-true, eq-eqb, or_cases, or_left, or_right, not-true, not-false, both_ways}
 use Rattle.std.proofs.lemmas.List.Folds.{list_any_at, list_any-append}
@@ -12,13 +12,13 @@ use Rattle.xn_ring.proofs.Orbits.{count-same}
 use Rattle.xn_euler.proofs.Counts.{count_below-drop}
 
 -- some segment touches w, so some dart has it as its tail
-pub touched_dart : (ends : List (ℕ × ℕ)) (w s : ℕ) → s < length ends → touches (ends_at ends s) w ≡ true → (x : ℕ) × (x < 2 * length ends) × (tail_of ends x ≡ w)
+pub touched_dart : (ends : List (ℕ × ℕ)) (w s : ℕ) → s < length ends → touches (ends_at ends s) w ≡ true → (x : ℕ) × (x < 2 * length ends) × (tail_of ends x ≡ w) × ((x ≡ 2 * s) ⊎ (x ≡ 2 * s + 1))
 touched_dart ends w s s_in t = elim (or_cases _ _ t) [
-  | inl first ↦ (2 * s, omega arith, tail-even ends s ∙ eqb-true _ _ first)
-  | inr second ↦ (2 * s + 1, omega arith, tail-odd ends s ∙ eqb-true _ _ second)
+  | inl first ↦ (2 * s, omega arith, tail-even ends s ∙ eqb-true _ _ first, inl refl)
+  | inr second ↦ (2 * s + 1, omega arith, tail-odd ends s ∙ eqb-true _ _ second, inr refl)
 ]
 
-find_touch : (ends : List (ℕ × ℕ)) (w : ℕ) → list_any (λ p. touches p w) ends ≡ true → (s : ℕ) × (s < length ends) × (touches (ends_at ends s) w ≡ true)
+pub find_touch : (ends : List (ℕ × ℕ)) (w : ℕ) → list_any (λ p. touches p w) ends ≡ true → (s : ℕ) × (s < length ends) × (touches (ends_at ends s) w ≡ true)
 find_touch [] w t = absurd (both_ways false refl t)
 find_touch (p ∷ ends) w t = elim (or_cases _ _ t) [
   | inl here ↦ (0, omega arith, here)
@@ -28,7 +28,8 @@ find_touch (p ∷ ends) w t = elim (or_cases _ _ t) [
 pub dart_if_not_lone : (ends : List (ℕ × ℕ)) (w : ℕ) → is_lone ends w ≡ false → (x : ℕ) × (x < 2 * length ends) × (tail_of ends x ≡ w)
 dart_if_not_lone ends w t =
     let found = find_touch ends w (not-false _ t) in
-    touched_dart ends w found.0 found.1 found.2
+    let dart = touched_dart ends w found.0 found.1 found.2 in
+    (dart.0, dart.1, dart.2)
 
 pub no_dart_if_lone : (ends : List (ℕ × ℕ)) (w : ℕ) → is_lone ends w ≡ true → (x : ℕ) → x < 2 * length ends → tail_of ends x ≡ w → ⊥
 no_dart_if_lone ends w t x x_in at_w =

@@ -1,4 +1,4 @@
--- A flat map stays flat on any of its segments, where the rotation passes over the others.
+-- A map on any of its segments, where the rotation passes over the others: it stays flat.
 use Rattle.std.proofs.Common.{◌≡◌, ◌≢◌, ℕ, zero, suc, ◌+◌, ◌-◌, ◌*◌, ◌/◌, ◌<◌, ◌≤◌, ◌⊎◌, inl, inr, Bool, true, false, not, ◌&&◌, eqb, List, length, refl, sym, ◌∙◌, ap, subst, arith}
 use Rattle.std.proofs.lemmas.Bool.{cases_eq, cases_lt, cases_Bool, both_ways, cond-true, cond-false, and_parts, and_from, and_right, eq-eqb, ne_eqb, eqb-false, not-true, not_from_true, not_from_false}
 use Rattle.xn_model.specs.Graph.{EndsIn}
@@ -133,10 +133,10 @@ pub record IsSoFar (nodes : ℕ) (ends : List (ℕ × ℕ)) (next : ℕ → ℕ)
   pub low : (i : ℕ) → i < k → now i ≡ keep i
   pub high : (i : ℕ) → k ≤ i → now i ≡ true
   pub map : IsMapOn ends now (passing_over keep k next)
-  pub flat : IsFlatOn nodes ends now (passing_over keep k next)
+  pub flat : IsFlat nodes ends next → IsFlatOn nodes ends now (passing_over keep k next)
   pub leads : LeadsOn (2 * length ends) (lives now) next (passing_over keep k next)
 
-module _ (nodes : ℕ) (ends : List (ℕ × ℕ)) (next : ℕ → ℕ) (map : IsMap nodes ends next) (flat : IsFlat nodes ends next) (keep : ℕ → Bool) where
+module _ (nodes : ℕ) (ends : List (ℕ × ℕ)) (next : ℕ → ℕ) (map : IsMap nodes ends next) (keep : ℕ → Bool) where
   so_far : (k : ℕ) → k ≤ length ends → IsSoFar nodes ends next keep k
   so_far zero k_in =
       let P : List (ℕ × ℕ) → Type 0 = λ xs. nodes + (cycle_count (2 * length ends) (face_step next) + count_below nodes (is_lone xs)) ≡ 2 * component_count nodes xs + length ends in
@@ -145,7 +145,7 @@ module _ (nodes : ℕ) (ends : List (ℕ × ℕ)) (next : ℕ → ℕ) (map : Is
         low = λ i early. absurd (omega arith);
         high = λ i late. refl;
         map = whole nodes ends next map;
-        flat = subst P (sym (kept-all ends)) flat;
+        flat = λ flat. subst P (sym (kept-all ends)) flat;
         leads = λ d d_in h. record { steps = 0; there = refl; at_end = refl; between = λ i early. absurd (omega arith) };
       }
   so_far (suc k) k_in =
@@ -162,7 +162,7 @@ module _ (nodes : ℕ) (ends : List (ℕ × ℕ)) (next : ℕ → ℕ) (map : Is
               low = λ i early. elim (cases_eq i k) [ inl here ↦ ap s.now here ∙ k_live ∙ sym keeps ∙ ap keep (sym here) | inr other ↦ s.low i (omega arith) ];
               high = λ i late. s.high i (omega arith);
               map = subst M (sym same) s.map;
-              flat = subst F (sym same) s.flat;
+              flat = λ flat. subst F (sym same) (s.flat flat);
               leads = subst L (sym same) s.leads;
             }
         | inr drops ↦
@@ -180,7 +180,7 @@ module _ (nodes : ℕ) (ends : List (ℕ × ℕ)) (next : ℕ → ℕ) (map : Is
               ];
               high = λ i late. dies-other k s.now i (λ e. omega arith) ∙ s.high i (omega arith);
               map = subst M (sym same) (IsMapOn-deleted nodes ends s.now g s.map map.ends_in k (omega arith) k_live);
-              flat = subst F (sym same) (flat_dies nodes ends map.ends_in s.now g s.map k (omega arith) k_live s.flat);
+              flat = λ flat. subst F (sym same) (flat_dies nodes ends map.ends_in s.now g s.map k (omega arith) k_live (s.flat flat));
               leads = subst L (sym same) (leads_on_cut ends s.now next g map.permutes s.map.permutes s.leads k (omega arith) k_live);
             }
       ]
@@ -201,10 +201,10 @@ module _ (nodes : ℕ) (ends : List (ℕ × ℕ)) (next : ℕ → ℕ) (map : Is
         round = λ d e d_in e_in d_live e_live tails. m.round d e d_in e_in (done.low (d / 2) (omega arith) ∙ d_live) (done.low (e / 2) (omega arith) ∙ e_live) tails;
       }
 
-  pub restricted_flat : IsFlatOn nodes ends keep passing
-  restricted_flat =
+  pub restricted_flat : IsFlat nodes ends next → IsFlatOn nodes ends keep passing
+  restricted_flat flat =
       let P : List (ℕ × ℕ) → Type 0 = λ xs. nodes + (cycle_count (2 * length ends) (face_step passing) + count_below nodes (is_lone xs)) ≡ 2 * component_count nodes xs + length ends in
-      subst P (kept-congr done.now keep ends done.low) done.flat
+      subst P (kept-congr done.now keep ends done.low) (done.flat flat)
 
   pub restricted_leads : LeadsOn (2 * length ends) (lives keep) next passing
   restricted_leads = leads_on-congr (2 * length ends) (lives done.now) (lives keep) next passing map.permutes (λ d d_in. done.low (d / 2) (omega arith)) done.leads
