@@ -4,7 +4,8 @@ use Rattle.std.specs.List.{list_any}
 use Rattle.std.proofs.lemmas.Bool.{and_from, and_parts, both_ways, cases_Bool, cases_eq, eq-eqb, eqb-true, not-true, not_from_false, or_cases, or_left, or_right}
 use Rattle.std.proofs.lemmas.List.Folds.{list_any_at}
 use Rattle.xn_model.specs.Graph.{EndsIn, ends_at, touches}
-use Rattle.xn_model.specs.Map.{IsFlat, IsMap, component_count, face_count, face_step, is_lone, reverse_of, tail_of}
+use Rattle.xn_model.specs.Lists.{at}
+use Rattle.xn_model.specs.Map.{IsFlat, IsMap, component_count, component_labels, face_count, face_step, is_lone, reverse_of, tail_of}
 use Rattle.xn_model.specs.Permutation.{Permutes, Reaches, count_below, cycle_count, is_least, iterate}
 use Rattle.xn_euler.specs.Live.{IsFlatOn, IsMapOn, faces_on, kept}
 use Rattle.xn_euler.specs.Part.{IsPart}
@@ -12,7 +13,7 @@ use Rattle.xn_model.proofs.Darts.{cases_dart, reverse-even, reverse-odd, reverse
 use Rattle.xn_ring.proofs.Orbits.{IsLeast, IsLeast-from_test, count-same, iterate_below, least_of, least_unique, reaches_back, reaches_below, reaches_trans, test-from_IsLeast}
 use Rattle.xn_ring.proofs.Transfer.{count_injects}
 use Rattle.xn_euler.proofs.Counts.{Permutes-face, all_below, same_tests}
-use Rattle.xn_euler.proofs.Kept.{Along, EndsIn-kept, EndsIn_at, along_kept_from, along_kept_to, any_kept_from, any_kept_to, component_count-same}
+use Rattle.xn_euler.proofs.Kept.{Along, EndsIn-kept, EndsIn_at, along_kept_from, along_kept_to, any_kept_from, any_kept_to, component_count-same, same_components}
 use Rattle.xn_euler.proofs.Lone.{find_touch, touched_dart}
 use Rattle.xn_euler.proofs.Tests.{count_below-darts, count_below-parts}
 
@@ -274,17 +275,24 @@ module _ (nodes : ℕ) (ends part : List (ℕ × ℕ)) (e : ℕ → ℕ) (is : I
   part_along m (p ∷ xs) along zero below = along.0
   part_along m (p ∷ xs) along (suc s) below = part_along m xs along.1 s (omega arith)
 
-  pub components_of_part : component_count nodes part ≡ component_count nodes (kept keep ends)
-  components_of_part = component_count-same nodes part (kept keep ends) IsMap-part.ends_in (EndsIn-kept nodes keep ends ends_in)
-      (λ m along. along_kept_from m keep ends (web_ends m (λ j j_in.
+  there : (m : ℕ → ℕ) → Along m part → Along m (kept keep ends)
+  there m along = along_kept_from m keep ends (web_ends m (λ j j_in.
       let c = cases_dart j in
       let same = part_along m part along c.0 (omega (arith, c.1, j_in)) in
       elim c.1 [
         | inl even ↦ ap (λ x. m (tail_of part x)) even ∙ ap m (tail-even part c.0) ∙ same ∙ ap m (sym (tail-odd part c.0)) ∙ ap (λ x. m (tail_of part x)) (sym (ap reverse_of even ∙ reverse-even c.0))
         | inr odd ↦ ap (λ x. m (tail_of part x)) odd ∙ ap m (tail-odd part c.0) ∙ sym same ∙ ap m (sym (tail-even part c.0)) ∙ ap (λ x. m (tail_of part x)) (sym (ap reverse_of odd ∙ reverse-odd c.0))
-      ])))
-      (λ m along. along_part m part (λ s s_in.
-      ap m (sym (tail-even part s)) ∙ part_ends m along (2 * s) (omega arith) ∙ ap (λ x. m (tail_of part x)) (reverse-even s) ∙ ap m (tail-odd part s)))
+      ]))
+
+  back : (m : ℕ → ℕ) → Along m (kept keep ends) → Along m part
+  back m along = along_part m part (λ s s_in.
+      ap m (sym (tail-even part s)) ∙ part_ends m along (2 * s) (omega arith) ∙ ap (λ x. m (tail_of part x)) (reverse-even s) ∙ ap m (tail-odd part s))
+
+  pub labels_of_part : (v : ℕ) → v < nodes → at (component_labels nodes part) v ≡ at (component_labels nodes (kept keep ends)) v
+  labels_of_part = same_components nodes part (kept keep ends) IsMap-part.ends_in (EndsIn-kept nodes keep ends ends_in) there back
+
+  pub components_of_part : component_count nodes part ≡ component_count nodes (kept keep ends)
+  components_of_part = component_count-same nodes part (kept keep ends) IsMap-part.ends_in (EndsIn-kept nodes keep ends ends_in) there back
 
   -- a node is lone in the part where it is in the live web
   lone_in_part : (w : ℕ) → is_lone part w ≡ is_lone (kept keep ends) w

@@ -28,10 +28,10 @@ module _ (nodes : ℕ) (ends : List (ℕ × ℕ)) (live : ℕ → Bool) (next : 
   abbrev p : ℕ × ℕ
   p = ends_at ends s
 
-  abbrev rest : ℕ → Bool
+  abbrev pub rest : ℕ → Bool
   rest i = live i && not (eqb i s)
 
-  abbrev left : List (ℕ × ℕ)
+  abbrev pub left : List (ℕ × ℕ)
   left = kept rest ends
 
   abbrev half : ℕ
@@ -320,10 +320,10 @@ module _ (nodes : ℕ) (ends : List (ℕ × ℕ)) (live : ℕ → Bool) (next : 
   left_in : EndsIn nodes left
   left_in = EndsIn-kept nodes rest ends ends_in
 
-  u_in : p.0 < nodes
+  pub u_in : p.0 < nodes
   u_in = (EndsIn_at nodes ends ends_in s s_in).0
 
-  v_in : p.1 < nodes
+  pub v_in : p.1 < nodes
   v_in = (EndsIn_at nodes ends ends_in s s_in).1
 
   lone_counts : count_below nodes (is_lone left) ≡ count_below nodes (is_lone (kept live ends)) + one_if (is_lone left p.0 && not (eqb p.1 p.0)) + one_if (is_lone left p.1)
@@ -343,7 +343,7 @@ module _ (nodes : ℕ) (ends : List (ℕ × ℕ)) (live : ℕ → Bool) (next : 
   ends_push [] h = (u_in, v_in, tt)
   ends_push (x ∷ xs) h = (h.0, h.1, ends_push xs h.2)
 
-  parts_push : component_count nodes (left ++ p ∷ []) ≡ component_count nodes (kept live ends)
+  pub parts_push : component_count nodes (left ++ p ∷ []) ≡ component_count nodes (kept live ends)
   parts_push = component_count-same nodes _ _ (ends_push left left_in) (EndsIn-kept nodes live ends ends_in)
       (λ m along. let parts = along_front m left along in along_kept_from m live ends (λ j below l. elim (cases_eq j s) [
         | inl same ↦ ap (λ i. m (ends_at ends i).0) same ∙ parts.1 ∙ ap (λ i. m (ends_at ends i).1) (sym same)
@@ -360,15 +360,15 @@ module _ (nodes : ℕ) (ends : List (ℕ × ℕ)) (live : ℕ → Bool) (next : 
   faces_after = cycle_count (2 * half) (face_step deleted) + count_below nodes (is_lone left)
 
   -- with the dead segment's own two-dart face counted
-  faces_rise : Reaches (face_step next) first second → faces_after ≡ faces_before + 2
+  pub faces_rise : Reaches (face_step next) first second → faces_after ≡ faces_before + 2
   faces_rise one_face = omega (arith, second_step, first_step_same one_face, lone_counts)
 
-  faces_stay : (Reaches (face_step next) first second → ⊥) → faces_after ≡ faces_before
+  pub faces_stay : (Reaches (face_step next) first second → ⊥) → faces_after ≡ faces_before
   faces_stay two_faces =
       let step = first_step_apart two_faces in
       omega (arith, second_step, step.0, step.1, lone_counts)
 
-  abbrev label : ℕ → ℕ
+  abbrev pub label : ℕ → ℕ
   label v = at (component_labels nodes left) v
 
   label_reverse : (z : ℕ) → z < 2 * half → rest (z / 2) ≡ true → label (tail (reverse_of z)) ≡ label (tail z)
@@ -423,7 +423,7 @@ module _ (nodes : ℕ) (ends : List (ℕ × ℕ)) (live : ℕ → Bool) (next : 
         ]
       ]
 
-  one_part : (Reaches (face_step next) first second → ⊥) → label p.0 ≡ label p.1
+  pub one_part : (Reaches (face_step next) first second → ⊥) → label p.0 ≡ label p.1
   one_part two_faces =
       let home = comes_back (2 * half) (face_step next) face_permutes first first_in in
       elim (face_walk home.0) [
@@ -440,3 +440,9 @@ module _ (nodes : ℕ) (ends : List (ℕ × ℕ)) (live : ℕ → Bool) (next : 
     ]
     | inr two_faces ↦ omega (arith, faces_stay two_faces, parts_push, component_count-push_same nodes left p left_in u_in v_in (one_part two_faces))
   ]
+
+  pub components_stay : label p.0 ≡ label p.1 → component_count nodes left ≡ component_count nodes (kept live ends)
+  components_stay same = sym (component_count-push_same nodes left p left_in u_in v_in same) ∙ parts_push
+
+  pub components_rise : label p.0 ≢ label p.1 → component_count nodes left ≡ component_count nodes (kept live ends) + 1
+  components_rise differ = omega (arith, parts_push, component_count-push_apart nodes left p left_in u_in v_in differ)

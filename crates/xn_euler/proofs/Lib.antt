@@ -1,5 +1,6 @@
 pub mod Compress
 pub mod Counts
+pub mod Delete
 pub mod Dies
 pub mod Euler
 pub mod Kept

@@ -1,4 +1,5 @@
 //! Laws on the genus of maps. Each is the contract of a function with an empty body.
+ghost use Rattle.xn_euler.specs.Deletion.{DeletionJoinsFaces, DeletionKeepsComponents, DeletionKeepsFlat, DeletionLeavesAMap, DeletionSplitsAComponent, DeletionSplitsAFace};
 ghost use Rattle.xn_euler.specs.Laws.{FlatOnAnySegments, GenusIsNotNegative, PartsAreMaps, PartsHaveRotations, PartsStayFlat};
 
 /// Euler's inequality: V - E + F is at most 2C for every map.
@@ -12,4 +13,14 @@ pub fn restriction()
     ensures rotation { PartsHaveRotations }
     ensures map { PartsAreMaps }
     ensures flat { PartsStayFlat }
+{}
+
+/// A segment goes out of its rings, and the last segment takes its number.
+pub fn deletion()
+    ensures map { DeletionLeavesAMap }
+    ensures split { DeletionSplitsAFace }
+    ensures join { DeletionJoinsFaces }
+    ensures joined { DeletionKeepsComponents }
+    ensures bridge { DeletionSplitsAComponent }
+    ensures flat { DeletionKeepsFlat }
 {}
