@@ -5,6 +5,7 @@ pub mod Dies
 pub mod Euler
 pub mod Kept
 pub mod Lone
+pub mod Nodes
 pub mod Part
 pub mod Parted
 pub mod Pushed

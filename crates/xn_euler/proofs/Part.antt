@@ -13,11 +13,11 @@ use Rattle.xn_euler.proofs.Restrict.{LeadsOn, lives, restricted_flat, restricted
 use Rattle.xn_euler.proofs.Tests.{some_below, some_below-from, some_below-to}
 
 -- the number below n that e sends to d, where there is one
-abbrev index : ℕ → (ℕ → ℕ) → ℕ → ℕ
+abbrev pub index : ℕ → (ℕ → ℕ) → ℕ → ℕ
 index zero e d = 0
 index (suc n) e d = cond (eqb (e n) d) n (index n e d)
 
-index_is : (n : ℕ) (e : ℕ → ℕ) (d j : ℕ) → j < n → e j ≡ d → (index n e d < n) × (e (index n e d) ≡ d)
+pub index_is : (n : ℕ) (e : ℕ → ℕ) (d j : ℕ) → j < n → e j ≡ d → (index n e d < n) × (e (index n e d) ≡ d)
 index_is zero e d j below same = absurd (omega arith)
 index_is (suc n) e d j below same = elim (cases_eq (e n) d) [
   | inl here ↦ let is : index (suc n) e d ≡ n = cond-true _ _ _ (eq-eqb _ _ here) in (omega (arith, is), ap e is ∙ here)

@@ -2,3 +2,4 @@ pub mod Deletion
 pub mod Laws
 pub mod Live
 pub mod Part
+pub mod Renumbering

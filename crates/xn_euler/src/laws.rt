@@ -1,6 +1,7 @@
 //! Laws on the genus of maps. Each is the contract of a function with an empty body.
 ghost use Rattle.xn_euler.specs.Deletion.{DeletionJoinsFaces, DeletionKeepsComponents, DeletionKeepsFlat, DeletionLeavesAMap, DeletionSplitsAComponent, DeletionSplitsAFace};
 ghost use Rattle.xn_euler.specs.Laws.{FlatOnAnySegments, GenusIsNotNegative, PartsAreMaps, PartsHaveRotations, PartsStayFlat};
+ghost use Rattle.xn_euler.specs.Renumbering.{NodeComes, NodeComesFlat, NodeGoes, NodeGoesFlat, NodeRenumberingKeepsCounts, NodeRenumberingKeepsFlat, NodeRenumberingLeavesAMap, RenumberingKeepsCounts, RenumberingKeepsFlat, RenumberingLeavesAMap};
 
 /// Euler's inequality: V - E + F is at most 2C for every map.
 pub fn euler_inequality()
@@ -23,4 +24,26 @@ pub fn deletion()
     ensures joined { DeletionKeepsComponents }
     ensures bridge { DeletionSplitsAComponent }
     ensures flat { DeletionKeepsFlat }
+{}
+
+/// All segments under other numbers, some perhaps turned: the counts stay.
+pub fn renumbering()
+    ensures map { RenumberingLeavesAMap }
+    ensures counts { RenumberingKeepsCounts }
+    ensures flat { RenumberingKeepsFlat }
+{}
+
+/// Nodes under other numbers: the counts stay.
+pub fn node_renumbering()
+    ensures map { NodeRenumberingLeavesAMap }
+    ensures counts { NodeRenumberingKeepsCounts }
+    ensures flat { NodeRenumberingKeepsFlat }
+{}
+
+/// A node without darts comes or goes: one face and one component more or less.
+pub fn nodes_without_darts()
+    ensures comes { NodeComes }
+    ensures comes_flat { NodeComesFlat }
+    ensures goes { NodeGoes }
+    ensures goes_flat { NodeGoesFlat }
 {}
