@@ -3,6 +3,10 @@ pub mod Counts
 pub mod Delete
 pub mod Dies
 pub mod Euler
+pub mod FaceWalk
+pub mod Insert
+pub mod InsertFaces
+pub mod InsertFlat
 pub mod Kept
 pub mod Lone
 pub mod Nodes
@@ -10,4 +14,7 @@ pub mod Part
 pub mod Parted
 pub mod Pushed
 pub mod Restrict
+pub mod SplitComponents
+pub mod SplitGenus
+pub mod Stand
 pub mod Tests

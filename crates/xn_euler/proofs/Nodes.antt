@@ -98,7 +98,7 @@ EndsIn-more nodes [] h = tt
 EndsIn-more nodes (p ∷ ends) h = (omega (arith, h.0), omega (arith, h.1), EndsIn-more nodes ends h.2)
 
 -- a node without darts leads nowhere
-alone_walk : (ends : List (ℕ × ℕ)) (u v : ℕ) (darts : List ℕ) → ((d : ℕ) → d < 2 * length ends → tail_of ends d ≢ u) → WalksTo ends u darts v → u ≡ v
+pub alone_walk : (ends : List (ℕ × ℕ)) (u v : ℕ) (darts : List ℕ) → ((d : ℕ) → d < 2 * length ends → tail_of ends d ≢ u) → WalksTo ends u darts v → u ≡ v
 alone_walk ends u v [] none walk = walk
 alone_walk ends u v (d ∷ darts) none walk = absurd (none d walk.0 walk.1)
 

@@ -3,3 +3,5 @@ pub mod Laws
 pub mod Live
 pub mod Part
 pub mod Renumbering
+pub mod Corners
+pub mod Insertion

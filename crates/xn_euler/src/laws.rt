@@ -1,6 +1,7 @@
 //! Laws on the genus of maps. Each is the contract of a function with an empty body.
 ghost use Rattle.xn_euler.specs.Deletion.{DeletionJoinsFaces, DeletionKeepsComponents, DeletionKeepsFlat, DeletionLeavesAMap, DeletionSplitsAComponent, DeletionSplitsAFace};
 ghost use Rattle.xn_euler.specs.Laws.{FlatOnAnySegments, GenusIsNotNegative, PartsAreMaps, PartsHaveRotations, PartsStayFlat};
+ghost use Rattle.xn_euler.specs.Insertion.{InsertionJoinsComponents, InsertionJoinsFaces, InsertionKeepsComponents, InsertionKeepsFlat, InsertionLeavesAMap, InsertionSplitsAFace, OtherInsertionsAreNotFlat};
 ghost use Rattle.xn_euler.specs.Renumbering.{NodeComes, NodeComesFlat, NodeGoes, NodeGoesFlat, NodeRenumberingKeepsCounts, NodeRenumberingKeepsFlat, NodeRenumberingLeavesAMap, RenumberingKeepsCounts, RenumberingKeepsFlat, RenumberingLeavesAMap};
 
 /// Euler's inequality: V - E + F is at most 2C for every map.
@@ -46,4 +47,15 @@ pub fn nodes_without_darts()
     ensures comes_flat { NodeComesFlat }
     ensures goes { NodeGoes }
     ensures goes_flat { NodeGoesFlat }
+{}
+
+/// A segment comes into a map, from a corner to a corner of another node.
+pub fn insertion()
+    ensures map { InsertionLeavesAMap }
+    ensures split { InsertionSplitsAFace }
+    ensures join { InsertionJoinsFaces }
+    ensures joined { InsertionKeepsComponents }
+    ensures apart { InsertionJoinsComponents }
+    ensures flat { InsertionKeepsFlat }
+    ensures others { OtherInsertionsAreNotFlat }
 {}
