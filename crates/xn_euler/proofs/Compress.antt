@@ -1,7 +1,6 @@
 -- A map on live segments, and the map of these segments under numbers of their own.
 use Rattle.std.proofs.Common.{◌≡◌, ◌≢◌, ℕ, zero, suc, ◌+◌, ◌*◌, ◌/◌, ◌%◌, ◌<◌, ◌≤◌, ◌⊎◌, inl, inr, Bool, true, false, not, ◌&&◌, eqb, List, [], ◌∷◌, length, refl, sym, ◌∙◌, ap, subst, arith}
-use Rattle.std.specs.List.{list_any}
-use Rattle.std.proofs.lemmas.Bool.{and_from, and_parts, both_ways, cases_Bool, cases_eq, eq-eqb, eqb-true, not-true, not_from_false, or_cases, or_left, or_right}
+use Rattle.std.proofs.lemmas.Bool.{and_from, and_parts, cases_eq, eq-eqb, eqb-true, not-true, or_left, or_right}
 use Rattle.std.proofs.lemmas.List.Folds.{list_any_at}
 use Rattle.xn_model.specs.Graph.{EndsIn, ends_at, touches}
 use Rattle.xn_model.specs.Lists.{at}
@@ -9,13 +8,13 @@ use Rattle.xn_model.specs.Map.{IsFlat, IsMap, component_count, component_labels,
 use Rattle.xn_model.specs.Permutation.{Permutes, Reaches, count_below, cycle_count, is_least, iterate}
 use Rattle.xn_euler.specs.Live.{IsFlatOn, IsMapOn, faces_on, kept}
 use Rattle.xn_euler.specs.Part.{IsPart}
-use Rattle.xn_model.proofs.Darts.{cases_dart, reverse-even, reverse-odd, reverse-reverse, reverse_below, tail-even, tail-odd}
-use Rattle.xn_ring.proofs.Orbits.{IsLeast, IsLeast-from_test, count-same, iterate_below, least_of, least_unique, reaches_back, reaches_below, reaches_trans, test-from_IsLeast}
-use Rattle.xn_ring.proofs.Transfer.{count_injects}
-use Rattle.xn_euler.proofs.Counts.{Permutes-face, all_below, same_tests}
+use Rattle.xn_model.proofs.Darts.{cases_dart, reverse-even, reverse-odd, reverse_below, tail-even, tail-odd}
+use Rattle.xn_ring.proofs.Orbits.{IsLeast, IsLeast-from_test, least_of, least_unique, reaches_back, reaches_below, reaches_trans, test-from_IsLeast}
+use Rattle.xn_ring.proofs.Counting.{count-same, count_injects, count-all, same_tests, count-parts}
+use Rattle.xn_euler.proofs.Counts.{Permutes-face}
 use Rattle.xn_euler.proofs.Kept.{Along, EndsIn-kept, EndsIn_at, along_kept_from, along_kept_to, any_kept_from, any_kept_to, component_count-same, same_components}
 use Rattle.xn_euler.proofs.Lone.{find_touch, touched_dart}
-use Rattle.xn_euler.proofs.Tests.{count_below-darts, count_below-parts}
+use Rattle.xn_euler.proofs.Tests.{count_below-darts}
 
 pub EndsIn_from : (nodes : ℕ) (ends : List (ℕ × ℕ)) → ((s : ℕ) → s < length ends → ((ends_at ends s).0 < nodes) × ((ends_at ends s).1 < nodes)) → EndsIn nodes ends
 EndsIn_from nodes [] each = tt
@@ -231,10 +230,10 @@ module _ (nodes : ℕ) (ends part : List (ℕ × ℕ)) (e : ℕ → ℕ) (is : I
   -- the faces: each dead segment has one of its own
   pub cycles_of_part : cycle_count n face + length part ≡ cycle_count k part_face + length ends
   cycles_of_part =
-      let all = count_below-parts n (is_least n face) (λ d. keep (d / 2)) in
+      let all = count-parts n (is_least n face) (λ d. keep (d / 2)) in
       let dead = count-same n _ _ dead_leads ∙ count_below-darts (length ends) (λ s. not (keep s)) in
-      let segments = count_below-parts (length ends) (λ s. true) keep in
-      omega (arith, all, dead, segments, to_part, from_part, segments_to, segments_from, all_below (length ends), all_below (length part))
+      let segments = count-parts (length ends) (λ s. true) keep in
+      omega (arith, all, dead, segments, to_part, from_part, segments_to, segments_from, count-all (length ends), count-all (length part))
 
   -- the two ends of each segment
   part_ends : (m : ℕ → ℕ) → Along m (kept keep ends) → (j : ℕ) → j < k → m (tail_of part j) ≡ m (tail_of part (reverse_of j))

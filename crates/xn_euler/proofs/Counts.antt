@@ -1,28 +1,38 @@
 -- Counts of cycles and of nodes.
-use Rattle.std.proofs.Common.{◌≡◌, ◌≢◌, ℕ, zero, suc, ◌+◌, ◌*◌, ◌<◌, ◌≤◌, ◌⊎◌, inl, inr, Bool, true, false, not, ◌&&◌, eqb, leb, [], ◌∷◌, refl, sym, ◌∙◌, ap, arith}
-use Rattle.std.specs.List.{list_all}
-use Rattle.std.proofs.lemmas.Bool.{cases_eq, eqb-true, eqb-false, eq-eqb, ne_eqb, false_from_ne_true}
-use Rattle.xn_model.specs.Lists.{one_if}
+use Rattle.std.proofs.Common.{◌≡◌, ◌≢◌, ℕ, zero, suc, ◌+◌, ◌*◌, ◌<◌, inl, inr, Bool, true, false, not, ◌&&◌, eqb, [], refl, sym, ◌∙◌, ap, subst, arith}
+use Rattle.std.proofs.lemmas.Bool.{cases_eq, eq-eqb, ne_eqb}
 use Rattle.std.proofs.lemmas.List.FromFn.{get_or-range_with_len}
+use Rattle.xn_model.specs.Lists.{one_if}
 use Rattle.xn_model.specs.Map.{component_count, face_step, reverse_of}
-use Rattle.xn_model.specs.Permutation.{Permutes, iterate, walk, is_least, cycle_count, count_below, Reaches, IsSplice}
+use Rattle.xn_model.specs.Permutation.{Permutes, iterate, cycle_count, count_below, IsSplice}
+use Rattle.xn_ring.proofs.Agreeing.{cycle_count-agrees}
+use Rattle.xn_ring.proofs.Counting.{count-all, count-same}
+use Rattle.xn_ring.proofs.Halves.{Permutes-below_pair, top_is_a_pair}
 use Rattle.xn_model.proofs.Darts.{reverse-reverse, reverse_below, reverse_apart}
-use Rattle.xn_ring.proofs.Orbits.{count-same, first_below, within, IsLeast-from_test, test-from_IsLeast}
-
-pub same_tests : (x y : Bool) → (x ≡ true → y ≡ true) → (y ≡ true → x ≡ true) → x ≡ y
-same_tests true y there back = sym (there refl)
-same_tests false true there back = back refl
-same_tests false false there back = refl
-
-walk-congr : (n : ℕ) (f g : ℕ → ℕ) → Permutes n f → ((x : ℕ) → x < n → g x ≡ f x) → (k d : ℕ) → d < n → walk f k d ≡ walk g k d
-walk-congr n f g permutes same zero d d_in = refl
-walk-congr n f g permutes same (suc k) d d_in =
-    ap (λ xs. d ∷ xs) (walk-congr n f g permutes same k (f d) (permutes.below d d_in) ∙ ap (walk g k) (sym (same d d_in)))
 
 -- two permutations that agree have as many cycles
 pub cycle_count-congr : (n : ℕ) (f g : ℕ → ℕ) → Permutes n f → ((x : ℕ) → x < n → g x ≡ f x) → cycle_count n f ≡ cycle_count n g
-cycle_count-congr n f g permutes same =
-    count-same n _ _ (λ d d_in. ap (list_all (λ e. leb d e)) (walk-congr n f g permutes same n d d_in))
+cycle_count-congr n f g permutes same = sym (cycle_count-agrees n f g permutes same)
+
+-- a number that is alone is all of its walk
+pub stays_alone : (f : ℕ → ℕ) (d : ℕ) → f d ≡ d → (k : ℕ) → iterate f k d ≡ d
+stays_alone f d alone zero = refl
+stays_alone f d alone (suc k) = ap f (stays_alone f d alone k) ∙ alone
+
+-- the last two numbers are a cycle of their own
+pub Permutes-front : (n : ℕ) (f : ℕ → ℕ) → Permutes (suc (suc n)) f → f n ≡ suc n → f (suc n) ≡ n → Permutes n f
+Permutes-front n f permutes there back =
+    let two : suc (suc n) ≡ n + 2 = omega arith in
+    let next : suc n ≡ n + 1 = omega arith in
+    let P : ℕ → Type 0 = λ k. Permutes k f in
+    Permutes-below_pair n f (there ∙ next) (ap f (sym next) ∙ back) (subst P two permutes)
+
+pub cycle_count-front : (n : ℕ) (f : ℕ → ℕ) → Permutes (suc (suc n)) f → f n ≡ suc n → f (suc n) ≡ n → cycle_count (suc (suc n)) f ≡ suc (cycle_count n f)
+cycle_count-front n f permutes there back =
+    let two : suc (suc n) ≡ n + 2 = omega arith in
+    let next : suc n ≡ n + 1 = omega arith in
+    let one : suc (cycle_count n f) ≡ cycle_count n f + 1 = omega arith in
+    ap (λ k. cycle_count k f) two ∙ (top_is_a_pair n f (there ∙ next) (ap f (sym next) ∙ back)).1 (Permutes-front n f permutes there back) ∙ sym one
 
 -- a swap of a number with itself changes nothing
 pub cycle_count-alone : (n a b : ℕ) (f g : ℕ → ℕ) → Permutes n f → IsSplice n a b f g → a ≡ b → cycle_count n f ≡ cycle_count n g
@@ -30,15 +40,6 @@ cycle_count-alone n a b f g permutes s same = cycle_count-congr n f g permutes (
   | inl at_a ↦ ap g at_a ∙ s.first ∙ ap f (sym same ∙ sym at_a)
   | inr not_a ↦ s.others x x_in not_a (λ at_b. not_a (at_b ∙ sym same))
 ])
-
--- d reaches e, or not
-pub cases_reaches : (n : ℕ) (f : ℕ → ℕ) → Permutes n f → (d e : ℕ) → d < n → Reaches f d e ⊎ (Reaches f d e → ⊥)
-cases_reaches n f permutes d e d_in = elim (first_below n (λ k. eqb (iterate f k d) e)) [
-  | inl found ↦ inl (found.0, eqb-true _ _ found.2)
-  | inr none ↦ inr (λ there.
-      let early = within n f permutes d d_in there.0 in
-      eqb-false _ _ (none early.0 early.1) (early.2 ∙ there.1))
-]
 
 -- the faces of a permutation of the darts
 pub Permutes-face : (m : ℕ) (f : ℕ → ℕ) → Permutes (2 * m) f → Permutes (2 * m) (face_step f)
@@ -84,9 +85,5 @@ count_below-drop (suc n) p m m_in = elim (cases_eq m n) [
         and-false true = refl
         and-false false = refl
 
-pub all_below : (n : ℕ) → count_below n (λ v. true) ≡ n
-all_below zero = refl
-all_below (suc n) = omega (arith, all_below n)
-
 pub no_segments : (nodes : ℕ) → component_count nodes [] ≡ nodes
-no_segments nodes = count-same nodes _ (λ v. true) (λ v v_in. eq-eqb _ _ (get_or-range_with_len 0 nodes v 0 v_in ∙ omega arith)) ∙ all_below nodes
+no_segments nodes = count-same nodes _ (λ v. true) (λ v v_in. eq-eqb _ _ (get_or-range_with_len 0 nodes v 0 v_in ∙ omega arith)) ∙ count-all nodes

@@ -1,15 +1,15 @@
 -- A segment goes out of a map, and the last segment takes its number.
-use Rattle.std.proofs.Common.{◌≡◌, ◌≢◌, ℕ, zero, suc, ◌+◌, ◌*◌, ◌/◌, ◌%◌, ◌<◌, ◌≤◌, ◌⊎◌, inl, inr, Bool, true, false, not, ◌&&◌, cond, eqb, List, length, refl, sym, ◌∙◌, ap, subst, arith}
-use Rattle.std.proofs.lemmas.Bool.{and_right, cases_eq, cond-true, cond-false, eq-eqb, ne_eqb, eqb-false, not-true, not_from_false}
+use Rattle.std.proofs.Common.{◌≡◌, ◌≢◌, ℕ, ◌+◌, ◌*◌, ◌/◌, ◌%◌, ◌<◌, ◌⊎◌, inl, inr, Bool, true, cond, eqb, List, length, refl, sym, ◌∙◌, ap, arith}
+use Rattle.std.proofs.lemmas.Bool.{cases_eq, cond-true, cond-false, eq-eqb, ne_eqb, eqb-false, not-true, not_from_false}
 use Rattle.xn_model.specs.Graph.{ends_at}
 use Rattle.xn_model.specs.Lists.{at}
 use Rattle.xn_model.specs.Map.{IsFlat, IsMap, Joined, component_count, component_labels, face_count, face_step, is_lone, reverse_of, tail_of}
 use Rattle.xn_model.specs.Permutation.{Reaches, count_below, cycle_count}
-use Rattle.xn_euler.specs.Deletion.{IsDeletion, dart_before, DeletionJoinsFaces, DeletionKeepsComponents, DeletionKeepsFlat, DeletionLeavesAMap, DeletionSplitsAComponent, DeletionSplitsAFace}
+use Rattle.xn_euler.specs.Deletion.{IsDeletion, dart_before}
 use Rattle.xn_euler.specs.Live.{IsMapOn, faces_on, kept, without_segment}
 use Rattle.xn_euler.specs.Part.{IsPart}
 use Rattle.xn_model.proofs.ComponentWalks.{joined_from_label, label_from_joined}
-use Rattle.xn_model.proofs.Darts.{cases_dart, reverse-even, reverse-odd, reverse_below, tail-even, tail-odd}
+use Rattle.xn_model.proofs.Darts.{cases_dart, reverse-even, reverse-odd, tail-even, tail-odd}
 use Rattle.xn_euler.proofs.Compress.{IsMap-part, components_of_part, faces_of_part, flat_part, labels_of_part}
 use Rattle.xn_euler.proofs.Dies.{IsMapOn-deleted, components_rise, components_stay, faces_rise, faces_stay, one_part, u_in, v_in}
 use Rattle.xn_euler.proofs.Euler.{dies, flat_dies, kept-all, whole}

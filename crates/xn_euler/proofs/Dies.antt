@@ -1,26 +1,22 @@
 -- What it does to a map on live segments that one of them dies.
 use Rattle.std.proofs.Common.{◌≡◌, ◌≢◌, ℕ, zero, suc, ◌+◌, ◌*◌, ◌/◌, ◌<◌, ◌≤◌, ◌⊎◌, inl, inr, Bool, true, false, not, ◌&&◌, eqb, List, [], ◌∷◌, ◌++◌, length, refl, sym, ◌∙◌, ap, arith}
 use Rattle.std.proofs.lemmas.Bool.{cases_eq, cases_Bool, and_parts, and_from, and_cases, or_cases, or_left, or_right, eqb-true, eqb-false, ne_eqb, both_ways, not-true, not-false, not_from_false, true_from_ne_false, false_from_ne_true}
+use Rattle.std.specs.List.{list_any}
+use Rattle.std.proofs.lemmas.List.Folds.{list_any-append}
 use Rattle.xn_model.specs.Graph.{EndsIn, ends_at, touches}
 use Rattle.xn_model.specs.Lists.{at, one_if}
 use Rattle.xn_model.specs.Map.{face_step, is_lone, component_count, component_labels, reverse_of, tail_of}
 use Rattle.xn_model.specs.Permutation.{Permutes, iterate, cycle_count, count_below, Reaches, IsSplice, without}
 use Rattle.xn_euler.specs.Live.{IsMapOn, kept}
 use Rattle.xn_model.proofs.Darts.{reverse-even, reverse-odd, reverse-reverse, reverse_below, cases_dart, tail-even, tail-odd}
-use Rattle.xn_ring.proofs.Orbits.{comes_back, iterate_below, reaches_back, reaches_trans, count-same}
+use Rattle.xn_ring.proofs.Orbits.{comes_back, iterate_below, reaches_back, reaches_trans, cases_reaches}
+use Rattle.xn_ring.proofs.Counting.{count-same, same_tests}
 use Rattle.xn_ring.proofs.Splice.{Permutes-splice, cycle_count-joined, cycle_count-split}
 use Rattle.xn_ring.proofs.Without.{without-at, without-before, without-other, before, IsSplice-without, reaches-without}
-use Rattle.xn_euler.proofs.Counts.{same_tests, cases_reaches, cycle_count-alone, IsSplice-face, Permutes-face}
+use Rattle.xn_euler.proofs.Counts.{stays_alone, cycle_count-alone, IsSplice-face, Permutes-face}
 use Rattle.xn_euler.proofs.Kept.{Along, EndsIn-kept, EndsIn_at, along_kept_from, along_kept_to, along_labels, any_kept_from, any_kept_to, live_dart_if_not_lone, no_live_dart_if_lone, component_count-same}
 use Rattle.xn_euler.proofs.Lone.{lone_count-push}
 use Rattle.xn_euler.proofs.Pushed.{component_count-push_same, component_count-push_apart}
-use Rattle.std.specs.List.{list_any}
-use Rattle.std.proofs.lemmas.List.Folds.{list_any-append}
-
--- a number that f leaves alone is all of its walk
-stays_alone : (f : ℕ → ℕ) (d : ℕ) → f d ≡ d → (k : ℕ) → iterate f k d ≡ d
-stays_alone f d alone zero = refl
-stays_alone f d alone (suc k) = ap f (stays_alone f d alone k) ∙ alone
 
 module _ (nodes : ℕ) (ends : List (ℕ × ℕ)) (live : ℕ → Bool) (next : ℕ → ℕ) (map : IsMapOn ends live next) (ends_in : EndsIn nodes ends)
     (s : ℕ) (s_in : s < length ends) (s_live : live s ≡ true) where

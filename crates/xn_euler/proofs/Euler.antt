@@ -2,12 +2,14 @@
 use Rattle.std.proofs.Common.{◌≡◌, ◌≢◌, ℕ, zero, suc, ◌+◌, ◌*◌, ◌/◌, ◌<◌, ◌≤◌, inl, inr, Bool, true, false, not, ◌&&◌, cond, eqb, List, [], ◌∷◌, length, refl, sym, ◌∙◌, ap, subst, arith}
 use Rattle.std.proofs.lemmas.Bool.{cases_eq, cases_lt, cases_Bool, both_ways, and_right, ne_eqb, eq-eqb, not_from_true}
 use Rattle.xn_model.specs.Graph.{EndsIn}
-use Rattle.xn_model.specs.Map.{IsFlat, IsMap, face_count, face_step, is_lone, component_count, reverse_of}
-use Rattle.xn_model.specs.Permutation.{Permutes, cycle_count, count_below, without}
+use Rattle.xn_model.specs.Map.{IsMap, face_count, face_step, is_lone, component_count, reverse_of}
+use Rattle.xn_model.specs.Permutation.{Permutes, cycle_count, count_below}
 use Rattle.xn_euler.specs.Live.{IsFlatOn, IsMapOn, faces_on, kept, without_segment}
 use Rattle.xn_model.proofs.Darts.{reverse-even, reverse-odd, reverse_below, reverse_apart}
-use Rattle.xn_ring.proofs.Top.{cycle_count-pair}
-use Rattle.xn_euler.proofs.Counts.{all_below, cycle_count-congr, no_segments}
+use Rattle.xn_euler.proofs.Counts.{cycle_count-front}
+use Rattle.xn_ring.proofs.Counting.{count-all}
+use Rattle.xn_euler.proofs.Counts.{cycle_count-congr}
+use Rattle.xn_euler.proofs.Counts.{no_segments}
 use Rattle.xn_euler.proofs.Dies.{IsMapOn-deleted, genus_on_falls}
 
 pub Permutes-reverse : (m : ℕ) → Permutes (2 * m) reverse_of
@@ -21,7 +23,7 @@ cycle_count-reverse (suc m) =
     let next_is : 2 * m + 1 ≡ suc (2 * m) = omega arith in
     let P : ℕ → Type 0 = λ n. Permutes n reverse_of in
     ap (λ n. cycle_count n reverse_of) more
-    ∙ cycle_count-pair (2 * m) reverse_of (subst P more (Permutes-reverse (suc m))) (reverse-even m ∙ next_is) (ap reverse_of (sym next_is) ∙ reverse-odd m)
+    ∙ cycle_count-front (2 * m) reverse_of (subst P more (Permutes-reverse (suc m))) (reverse-even m ∙ next_is) (ap reverse_of (sym next_is) ∙ reverse-odd m)
     ∙ ap suc (cycle_count-reverse m)
 
 pub kept-congr : (live keep : ℕ → Bool) (ends : List (ℕ × ℕ)) → ((i : ℕ) → i < length ends → live i ≡ keep i) → kept live ends ≡ kept keep ends
@@ -65,7 +67,7 @@ module _ (nodes : ℕ) (ends : List (ℕ × ℕ)) (ends_in : EndsIn nodes ends) 
       let cycles : cycle_count (2 * length ends) (face_step next) ≡ length ends =
       sym (cycle_count-congr (2 * length ends) reverse_of (face_step next) (Permutes-reverse (length ends)) (λ d d_in. alone (reverse_of d) (reverse_below (length ends) d d_in)))
       ∙ cycle_count-reverse (length ends) in
-      let lone : count_below nodes (is_lone (kept live ends)) ≡ nodes = ap (λ xs. count_below nodes (is_lone xs)) nothing ∙ all_below nodes in
+      let lone : count_below nodes (is_lone (kept live ends)) ≡ nodes = ap (λ xs. count_below nodes (is_lone xs)) nothing ∙ count-all nodes in
       let parts : component_count nodes (kept live ends) ≡ nodes = ap (component_count nodes) nothing ∙ no_segments nodes in
       omega (arith, cycles, lone, parts)
   euler_below (suc k) live next map none = elim (cases_lt k (length ends)) [

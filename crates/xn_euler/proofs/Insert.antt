@@ -1,24 +1,23 @@
 -- A segment comes into a map.
-use Rattle.std.proofs.Common.{◌≡◌, ◌≢◌, ℕ, zero, suc, ◌+◌, ◌*◌, ◌/◌, ◌%◌, ◌<◌, ◌≤◌, ◌⊎◌, inl, inr, Bool, true, false, not, ◌&&◌, cond, eqb, List, [], ◌∷◌, ◌++◌, length, refl, sym, ◌∙◌, ap, subst, arith, length-append}
-use Rattle.std.proofs.lemmas.Bool.{both_ways, cases_eq, cases_lt, cond-true, cond-false, eq-eqb, ne_eqb, ltb-true, false_from_ne_true}
+use Rattle.std.proofs.Common.{◌≡◌, ◌≢◌, ℕ, suc, ◌+◌, ◌*◌, ◌/◌, ◌%◌, ◌<◌, ◌≤◌, ◌⊎◌, inl, inr, cond, eqb, List, [], ◌∷◌, length, refl, sym, ◌∙◌, ap, subst, arith, length-append}
+use Rattle.std.proofs.lemmas.Bool.{cases_eq, cases_lt, cond-true, cond-false, eq-eqb, ne_eqb}
 use Rattle.std.proofs.lemmas.List.{get_or_append_left, get_or_at}
-use Rattle.xn_model.specs.Graph.{EndsIn, ends_at}
-use Rattle.xn_model.specs.Lists.{at, one_if}
-use Rattle.xn_model.specs.Map.{IsFlat, IsMap, Joined, component_count, component_labels, face_count, face_step, is_lone, reverse_of, tail_of}
-use Rattle.xn_model.specs.Permutation.{IsSplice, Permutes, Reaches, count_below, cycle_count, iterate, without}
-use Rattle.xn_euler.specs.Corners.{Corner, after, lone, InOneFace, IsCornerOf, node_of, stand_at}
+use Rattle.xn_model.specs.Graph.{ends_at}
+use Rattle.xn_model.specs.Lists.{at}
+use Rattle.xn_model.specs.Map.{IsMap, Joined, component_count, face_count, face_step, tail_of}
+use Rattle.xn_model.specs.Permutation.{Permutes, Reaches, without}
+use Rattle.xn_euler.specs.Corners.{Corner, after, lone, IsCornerOf, node_of, stand_at}
 use Rattle.xn_euler.specs.Deletion.{IsDeletion}
 use Rattle.xn_euler.specs.Insertion.{IsInsertion}
-use Rattle.xn_model.proofs.ComponentWalks.{joined_dart, joined_trans, joined_from_label, label_from_joined}
-use Rattle.xn_model.proofs.Darts.{cases_dart, reverse-even, reverse-odd, reverse-reverse, reverse_below, tail-push, tail-push_even, tail-push_odd}
-use Rattle.xn_ring.proofs.Orbits.{iterate_below, reaches_back, reaches_trans}
-use Rattle.xn_ring.proofs.Without.{without-at, without-before, without-other}
+use Rattle.xn_model.proofs.Darts.{tail-push, tail-push_even, tail-push_odd}
+use Rattle.xn_ring.proofs.Orbits.{reaches_back, reaches_trans, cases_reaches}
+use Rattle.xn_ring.proofs.Without.{without-before, without-other}
+use Rattle.xn_ring.proofs.Agreeing.{Permutes-agrees}
 use Rattle.xn_euler.proofs.Compress.{EndsIn_tails, tail_in}
-use Rattle.xn_euler.proofs.Counts.{Permutes-face, cycle_count-congr, cases_reaches}
-use Rattle.xn_euler.proofs.Delete.{joins_faces, keeps_components, map_left, splits_a_component, splits_a_face}
-use Rattle.xn_euler.proofs.InsertFaces.{cycle_count-same_face, cycle_count-two_faces}
-use Rattle.xn_euler.proofs.Lone.{lone_count-push, no_dart_if_lone}
-use Rattle.xn_euler.proofs.Stand.{AtDart, Permutes-agree, Stood, reaches-agree, splice_stand, stand-agree, stand_at_dart, stand_new, stand_other, alone_new, stand_undone, stood}
+use Rattle.xn_euler.proofs.Counts.{Permutes-face}
+use Rattle.xn_euler.proofs.Delete.{joins_faces, keeps_components, splits_a_component, splits_a_face}
+use Rattle.xn_euler.proofs.Lone.{no_dart_if_lone}
+use Rattle.xn_euler.proofs.Stand.{AtDart, Stood, reaches-agrees, stand-agree, stand_at_dart, stand_new, stand_other, alone_new, stand_undone, stood}
 
 without-agree : (x : ℕ) (f g : ℕ → ℕ) (p : ℕ) → g p ≡ f p → g x ≡ f x → without x g p ≡ without x f p
 without-agree x f g p same same_x = elim (cases_eq p x) [
@@ -157,18 +156,18 @@ module _ (nodes : ℕ) (ends more : List (ℕ × ℕ)) (a b : Corner) (next turn
       (half d d_in)
 
   turn_permutes : Permutes n turn
-  turn_permutes = Permutes-agree n two turn two_stood.permutes turn_is
+  turn_permutes = Permutes-agrees n two turn two_stood.permutes turn_is
 
   -- a walk among the old darts goes on
   from_next : (p q : ℕ) → p < x → q < x → Reaches next p q → Reaches base p q
-  from_next p q p_in q_in there = reaches-agree x next base map.permutes.below base_old p q p_in there
+  from_next p q p_in q_in there = reaches-agrees x next base map.permutes base_old p q p_in there
 
   from_base : (p q : ℕ) → p < n → q < n → Reaches base p q → Reaches turn p q
   from_base p q p_in q_in there =
-      reaches-agree n two turn two_stood.permutes.below turn_is p q p_in (two_stood.kept p q p_in q_in (one_stood.kept p q p_in q_in there))
+      reaches-agrees n two turn two_stood.permutes turn_is p q p_in (two_stood.kept p q p_in q_in (one_stood.kept p q p_in q_in there))
 
   from_one : (p q : ℕ) → p < n → q < n → Reaches one p q → Reaches turn p q
-  from_one p q p_in q_in there = reaches-agree n two turn two_stood.permutes.below turn_is p q p_in (two_stood.kept p q p_in q_in there)
+  from_one p q p_in q_in there = reaches-agrees n two turn two_stood.permutes turn_is p q p_in (two_stood.kept p q p_in q_in there)
 
   -- a dart of the node of a corner comes to the dart that stands there
   comes_to : (c : Corner) → IsCornerOf nodes ends c → (z : ℕ) → z < n → AtDart c (λ d. Reaches turn d z) → (p : ℕ) → p < x → tail_of ends p ≡ node_of ends c → Reaches turn p z
@@ -185,7 +184,7 @@ module _ (nodes : ℕ) (ends more : List (ℕ × ℕ)) (a b : Corner) (next turn
   at_second (lone w) h there on = tt
 
   to_x : (p : ℕ) → p < x → tail_of ends p ≡ u → Reaches turn p x
-  to_x = comes_to a comes.first x x_in (at_first a comes.first two_stood.joins (λ p q p_in there. reaches-agree n two turn two_stood.permutes.below turn_is p q p_in there))
+  to_x = comes_to a comes.first x x_in (at_first a comes.first two_stood.joins (λ p q p_in there. reaches-agrees n two turn two_stood.permutes turn_is p q p_in there))
 
   to_y : (p : ℕ) → p < x → tail_of ends p ≡ v → Reaches turn p y
   to_y = comes_to b comes.second y y_in (at_second b comes.second one_stood.joins from_one)

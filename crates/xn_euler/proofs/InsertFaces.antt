@@ -1,12 +1,11 @@
 -- What a new segment between two corners does to the number of faces.
-use Rattle.std.proofs.Common.{◌≡◌, ◌≢◌, ℕ, zero, suc, ◌+◌, ◌*◌, ◌<◌, ◌≤◌, ◌⊎◌, inl, inr, refl, sym, ◌∙◌, ap, subst, arith}
+use Rattle.std.proofs.Common.{◌≡◌, ℕ, suc, ◌+◌, ◌*◌, ◌<◌, ◌≤◌, inl, inr, sym, ◌∙◌, ap, subst, arith}
 use Rattle.xn_model.specs.Map.{face_step, reverse_of}
-use Rattle.xn_model.specs.Permutation.{Permutes, iterate, cycle_count, Reaches, IsSplice}
+use Rattle.xn_model.specs.Permutation.{Permutes, cycle_count, Reaches, IsSplice}
 use Rattle.xn_model.proofs.Darts.{reverse-even, reverse-odd, reverse_below}
 use Rattle.xn_ring.proofs.Orbits.{iterate_below, reaches_back, reaches_trans}
 use Rattle.xn_ring.proofs.Splice.{Permutes-splice, cycle_count-joined, cycle_count-split, joined, kept_to, merged}
-use Rattle.xn_ring.proofs.Top.{Permutes-below_pair, cycle_count-pair}
-use Rattle.xn_euler.proofs.Counts.{IsSplice-face, Permutes-face}
+use Rattle.xn_euler.proofs.Counts.{Permutes-front, cycle_count-front, IsSplice-face, Permutes-face}
 
 -- the rotation f has the two new darts alone; the first goes after a, then the second after b
 module _ (m a b : ℕ) (f mid g : ℕ → ℕ) (permutes : Permutes (2 * suc m) f) (first_alone : f (2 * m) ≡ 2 * m) (second_alone : f (2 * m + 1) ≡ 2 * m + 1)
@@ -48,10 +47,10 @@ module _ (m a b : ℕ) (f mid g : ℕ → ℕ) (permutes : Permutes (2 * suc m) 
   y_is = omega arith
 
   front : Permutes x old
-  front = Permutes-below_pair x old wide (x_to_y ∙ y_is) (ap old (sym y_is) ∙ y_to_x)
+  front = Permutes-front x old wide (x_to_y ∙ y_is) (ap old (sym y_is) ∙ y_to_x)
 
   count_old : cycle_count n old ≡ suc (cycle_count x old)
-  count_old = ap (λ k. cycle_count k old) size ∙ cycle_count-pair x old wide (x_to_y ∙ y_is) (ap old (sym y_is) ∙ y_to_x)
+  count_old = ap (λ k. cycle_count k old) size ∙ cycle_count-front x old wide (x_to_y ∙ y_is) (ap old (sym y_is) ∙ y_to_x)
 
   -- an old walk meets no new dart
   stays_old : (d e : ℕ) → d < x → x ≤ e → Reaches old d e → ⊥
@@ -105,10 +104,10 @@ module _ (m a b : ℕ) (f mid g : ℕ → ℕ) (permutes : Permutes (2 * suc m) 
       let y_in : y < n = omega arith in
       let P : ℕ → Type 0 = λ e. Reaches old (reverse_of b) e in
       let away : Reaches between (reverse_of b) x → ⊥ = λ there.
-          elim (merged n (reverse_of a) y old between old_permutes between_permutes splice_one ra y_in far (reverse_of b) rb there.0) [
-            | inl within ↦ stays_old (reverse_of b) x rb_in (omega arith) (subst P there.1 within)
-            | inr (inl pair) ↦ apart (reaches_back n old old_permutes (reverse_of b) (reverse_of a) rb pair.0)
-            | inr (inr pair) ↦ stays_old (reverse_of b) y rb_in (omega arith) pair.0
-          ] in
+      elim (merged n (reverse_of a) y old between old_permutes between_permutes splice_one ra y_in far (reverse_of b) rb there.0) [
+        | inl within ↦ stays_old (reverse_of b) x rb_in (omega arith) (subst P there.1 within)
+        | inr (inl pair) ↦ apart (reaches_back n old old_permutes (reverse_of b) (reverse_of a) rb pair.0)
+        | inr (inr pair) ↦ stays_old (reverse_of b) y rb_in (omega arith) pair.0
+      ] in
       let join = cycle_count-joined n (reverse_of b) x between new between_permutes splice_two rb (omega arith) away in
       omega (arith, join, count_between, count_old)

@@ -1,22 +1,24 @@
 -- The faces once a segment has come into a map: within one face one more, else one less.
-use Rattle.std.proofs.Common.{◌≡◌, ◌≢◌, ℕ, zero, suc, ◌+◌, ◌*◌, ◌<◌, ◌≤◌, ◌⊎◌, inl, inr, Bool, true, false, not, ◌&&◌, eqb, List, [], ◌∷◌, ◌++◌, length, refl, sym, ◌∙◌, ap, subst, arith}
-use Rattle.std.proofs.lemmas.Bool.{both_ways, cases_Bool, false_from_ne_true}
+use Rattle.std.proofs.Common.{◌≡◌, ◌≢◌, ℕ, suc, ◌+◌, ◌*◌, ◌<◌, ◌⊎◌, inl, inr, true, false, not, ◌&&◌, eqb, List, [], ◌∷◌, ◌++◌, length, refl, sym, ◌∙◌, ap, subst, arith}
+use Rattle.std.proofs.lemmas.Bool.{false_from_ne_true}
 use Rattle.xn_model.specs.Lists.{one_if}
-use Rattle.xn_model.specs.Map.{IsFlat, IsMap, Joined, WalksTo, component_count, face_count, face_step, is_lone, reverse_of, tail_of}
+use Rattle.xn_model.specs.Map.{IsFlat, IsMap, Joined, face_count, face_step, is_lone, reverse_of, tail_of}
 use Rattle.xn_model.specs.Permutation.{IsSplice, Permutes, Reaches, count_below, cycle_count}
 use Rattle.xn_euler.specs.Corners.{Corner, after, lone, InOneFace, node_of, stand_at}
 use Rattle.xn_euler.specs.Insertion.{IsInsertion}
 use Rattle.xn_model.proofs.ComponentWalks.{joined_sym}
 use Rattle.xn_model.proofs.Darts.{reverse-reverse, reverse_below}
+use Rattle.xn_ring.proofs.Agreeing.{Permutes-agrees}
 use Rattle.xn_ring.proofs.Orbits.{reaches_back, reaches_trans}
+use Rattle.xn_euler.proofs.Counts.{cycle_count-congr}
 use Rattle.xn_euler.proofs.Compress.{tail_in}
-use Rattle.xn_euler.proofs.Counts.{Permutes-face, cases_reaches, cycle_count-congr}
+use Rattle.xn_euler.proofs.Counts.{Permutes-face}
 use Rattle.xn_euler.proofs.FaceWalk.{joined_along_face}
-use Rattle.xn_euler.proofs.Insert.{base, base_old, base_permutes, base_x, base_y, components_join, components_stay, faces_of_bridge, one, one_x, size, turn_is, two, u_in, v_in}
+use Rattle.xn_euler.proofs.Insert.{base, base_old, base_permutes, base_x, base_y, components_join, components_stay, faces_of_bridge, one, size, turn_is}
 use Rattle.xn_euler.proofs.InsertFaces.{cycle_count-same_face, cycle_count-two_faces}
 use Rattle.xn_euler.proofs.Lone.{lone_count-push, no_dart_if_lone}
 use Rattle.xn_euler.proofs.Nodes.{alone_walk}
-use Rattle.xn_euler.proofs.Stand.{reaches-agree, splice_stand, stand-agree, stand_at_dart, stand_new, stand_other}
+use Rattle.xn_euler.proofs.Stand.{reaches-agrees, splice_stand, stand-agree, stand_at_dart, stand_new, stand_other}
 
 -- between two darts' corners
 module _ (nodes : ℕ) (ends more : List (ℕ × ℕ)) (d e : ℕ) (next turn : ℕ → ℕ) (map : IsMap nodes ends next) (comes : IsInsertion nodes ends next (after d) (after e) more turn) where
@@ -103,13 +105,13 @@ module _ (nodes : ℕ) (ends more : List (ℕ × ℕ)) (d e : ℕ) (next turn : 
   there same =
       let from = reaches_trans (face_step next) (reverse_of d) (next d) (next e) (1, step d) same in
       let to = reaches_back x (face_step next) face_permutes (reverse_of e) (next e) re_in (1, step e) in
-      reaches-agree x (face_step next) (face_step alone) face_permutes.below face_old (reverse_of d) (reverse_of e) rd_in
+      reaches-agrees x (face_step next) (face_step alone) face_permutes face_old (reverse_of d) (reverse_of e) rd_in
       (reaches_trans (face_step next) (reverse_of d) (next e) (reverse_of e) from to)
 
   back : Reaches (face_step alone) (reverse_of d) (reverse_of e) → Reaches (face_step next) (next d) (next e)
   back same =
-      let alone_below : (c : ℕ) → c < x → face_step alone c < x = λ c c_in. let P : ℕ → Type 0 = λ z. z < x in subst P (sym (face_old c c_in)) (face_permutes.below c c_in) in
-      let walk = reaches-agree x (face_step alone) (face_step next) alone_below (λ c c_in. sym (face_old c c_in)) (reverse_of d) (reverse_of e) rd_in same in
+      let alone_permutes = Permutes-agrees x (face_step next) (face_step alone) face_permutes face_old in
+      let walk = reaches-agrees x (face_step alone) (face_step next) alone_permutes (λ c c_in. sym (face_old c c_in)) (reverse_of d) (reverse_of e) rd_in same in
       let from = reaches_back x (face_step next) face_permutes (reverse_of d) (next d) rd_in (1, step d) in
       reaches_trans (face_step next) (next d) (reverse_of e) (next e) (reaches_trans (face_step next) (next d) (reverse_of d) (reverse_of e) from walk) (1, step e)
 

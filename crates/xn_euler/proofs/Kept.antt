@@ -9,7 +9,7 @@ use Rattle.xn_model.specs.Map.{is_lone, join_components, component_count, compon
 use Rattle.xn_euler.specs.Live.{kept}
 use Rattle.xn_model.proofs.Components.{IsLabelling, IsLabelling-join, IsLabelling-components, IsLabelling-start, at-join_components, cases_relabel, joined_after, kept_joined}
 use Rattle.xn_model.proofs.Darts.{cases_dart, tail-even, tail-odd}
-use Rattle.xn_ring.proofs.Orbits.{count-same}
+use Rattle.xn_ring.proofs.Counting.{count-same}
 
 -- m is the same at the two ends of each segment
 abbrev pub Along : (ℕ → ℕ) → List (ℕ × ℕ) → Type 0

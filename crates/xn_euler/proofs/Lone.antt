@@ -8,7 +8,7 @@ use Rattle.xn_model.specs.Lists.{one_if}
 use Rattle.xn_model.specs.Map.{is_lone, tail_of}
 use Rattle.xn_model.specs.Permutation.{count_below}
 use Rattle.xn_model.proofs.Darts.{cases_dart, tail-even, tail-odd}
-use Rattle.xn_ring.proofs.Orbits.{count-same}
+use Rattle.xn_ring.proofs.Counting.{count-same}
 use Rattle.xn_euler.proofs.Counts.{count_below-drop}
 
 -- some segment touches w, so some dart has it as its tail

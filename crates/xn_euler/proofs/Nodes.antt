@@ -1,16 +1,15 @@
 -- Nodes under other numbers, and nodes without darts.
-use Rattle.std.proofs.Common.{◌≡◌, ◌≢◌, ℕ, zero, suc, ◌+◌, ◌*◌, ◌<◌, ◌≤◌, ◌⊎◌, inl, inr, Bool, true, false, cond, eqb, List, [], ◌∷◌, length, refl, sym, ◌∙◌, ap, subst, arith}
-use Rattle.std.proofs.lemmas.Bool.{both_ways, cases_eq, cond-true, cond-false, eq-eqb, ne_eqb, true_from_ne_false}
+use Rattle.std.proofs.Common.{◌≡◌, ◌≢◌, ℕ, suc, ◌+◌, ◌*◌, ◌<◌, ◌⊎◌, inl, inr, true, cond, eqb, List, [], ◌∷◌, length, refl, sym, ◌∙◌, ap, subst, arith}
+use Rattle.std.proofs.lemmas.Bool.{cases_eq, cond-true, cond-false, eq-eqb, ne_eqb, true_from_ne_false}
 use Rattle.xn_model.specs.Graph.{EndsIn}
 use Rattle.xn_model.specs.Lists.{at, one_if}
-use Rattle.xn_model.specs.Map.{IsFlat, IsMap, Joined, WalksTo, component_count, component_labels, face_count, face_step, is_lone, reverse_of, tail_of}
+use Rattle.xn_model.specs.Map.{IsMap, Joined, WalksTo, component_count, component_labels, face_count, face_step, is_lone, reverse_of, tail_of}
 use Rattle.xn_model.specs.Permutation.{Permutes, count_below, cycle_count}
 use Rattle.xn_euler.specs.Renumbering.{IsNodeRemoval, IsNodeRenumbering}
 use Rattle.xn_model.proofs.ComponentWalks.{joined_dart, joined_to_label, label_from_joined}
 use Rattle.xn_model.proofs.Components.{IsLabelling-components}
 use Rattle.xn_model.proofs.Darts.{reverse_below}
-use Rattle.xn_ring.proofs.Orbits.{count-same}
-use Rattle.xn_ring.proofs.Transfer.{count_injects}
+use Rattle.xn_ring.proofs.Counting.{count-same, count_injects}
 use Rattle.xn_ring.proofs.Without.{before}
 use Rattle.xn_euler.proofs.Compress.{EndsIn_tails, tail_in}
 use Rattle.xn_euler.proofs.Lone.{dart_if_not_lone, no_dart_if_lone}

@@ -1,15 +1,16 @@
 -- A part of a map under numbers of its own is a map, and flat where the map is.
-use Rattle.std.proofs.Common.{◌≡◌, ◌≢◌, ℕ, zero, suc, ◌+◌, ◌*◌, ◌/◌, ◌<◌, ◌≤◌, ◌⊎◌, inl, inr, Bool, true, false, cond, eqb, List, length, refl, sym, ◌∙◌, ap, subst, arith}
-use Rattle.std.proofs.lemmas.Bool.{both_ways, cases_Bool, cases_eq, cases_order, cond-true, cond-false, eq-eqb, eqb-true, ne_eqb}
-use Rattle.xn_model.specs.Map.{IsFlat, IsMap, component_count, face_count, is_lone, reverse_of, tail_of}
+use Rattle.std.proofs.Common.{◌≡◌, ℕ, zero, suc, ◌+◌, ◌*◌, ◌/◌, ◌<◌, ◌⊎◌, inl, inr, Bool, true, cond, eqb, List, length, refl, sym, ◌∙◌, ap, arith}
+use Rattle.std.proofs.lemmas.Bool.{both_ways, cases_eq, cases_order, cond-true, cond-false, eq-eqb, eqb-true, ne_eqb}
+use Rattle.xn_model.specs.Map.{IsFlat, IsMap, component_count, face_count, is_lone, reverse_of}
 use Rattle.xn_model.specs.Permutation.{Permutes, count_below, iterate}
-use Rattle.xn_euler.specs.Live.{IsFirstAfter, kept, passing_over}
-use Rattle.xn_euler.specs.Part.{ComesFirst, IsPart, PassesOver}
-use Rattle.xn_model.proofs.Darts.{cases_dart, reverse-even, reverse-odd, reverse-reverse, reverse_below}
+use Rattle.xn_ring.specs.Removals.{IsNextKept}
+use Rattle.xn_euler.specs.Live.{kept, passing_over}
+use Rattle.xn_euler.specs.Part.{IsPart, PassesOver}
+use Rattle.xn_model.proofs.Darts.{cases_dart, reverse-even, reverse-odd, reverse_below}
 use Rattle.xn_ring.proofs.Without.{before}
 use Rattle.xn_euler.proofs.Compress.{IsMap-part, components_of_part, faces_of_part, flat_part}
 use Rattle.xn_euler.proofs.Euler.{kept-all, whole}
-use Rattle.xn_euler.proofs.Restrict.{LeadsOn, lives, restricted_flat, restricted_leads, restricted_map}
+use Rattle.xn_euler.proofs.Restrict.{lives, restricted_flat, restricted_leads, restricted_map}
 use Rattle.xn_euler.proofs.Tests.{some_below, some_below-from, some_below-to}
 
 -- the number below n that e sends to d, where there is one
@@ -61,7 +62,7 @@ module _ (nodes : ℕ) (ends part : List (ℕ × ℕ)) (e next : ℕ → ℕ) (m
   abbrev on : ℕ → ℕ
   on = passing_over keep (length ends) next
 
-  on_first : (j : ℕ) → j < k → IsFirstAfter (lives keep) next (e j) (on (e j))
+  on_first : (j : ℕ) → j < k → IsNextKept next (lives keep) (e j) (on (e j))
   on_first j j_in = restricted_leads nodes ends next map keep (e j) (is.below j j_in) (keeps j j_in)
 
   on_in : (j : ℕ) → j < k → on (e j) < n
@@ -72,7 +73,7 @@ module _ (nodes : ℕ) (ends part : List (ℕ × ℕ)) (e next : ℕ → ℕ) (m
   passes_over =
       let after = λ (j : ℕ). index k e (on (e j)) in
       let right : (j : ℕ) → j < k → (after j < k) × (e (after j) ≡ on (e j)) = λ j j_in.
-      let there = found (on (e j)) (on_in j j_in) (on_first j j_in).at_end in
+      let there = found (on (e j)) (on_in j j_in) (on_first j j_in).kept in
       index_is k e (on (e j)) there.0 there.1 there.2 in (
         after,
         record {
@@ -82,7 +83,7 @@ module _ (nodes : ℕ) (ends part : List (ℕ × ℕ)) (e next : ℕ → ℕ) (m
               record {
                 steps = one.steps;
                 there = one.there ∙ sym (right j j_in).1;
-                between = λ i l early l_in same. both_ways _ (one.between i early) (ap (λ x. keep (x / 2)) same ∙ keeps l l_in);
+                between = λ i l early l_in same. both_ways _ (one.passed i early) (ap (λ x. keep (x / 2)) same ∙ keeps l l_in);
               };
         },
       )
@@ -94,10 +95,10 @@ module _ (nodes : ℕ) (ends part : List (ℕ × ℕ)) (e next : ℕ → ℕ) (m
         let one = passes.first j j_in in
         let two = on_first j j_in in
         elim (cases_order one.steps two.steps) [
-          | inr (inl less) ↦ absurd (both_ways _ (two.between one.steps less) (ap (λ x. keep (x / 2)) one.there ∙ keeps (after j) (passes.below j j_in)))
+          | inr (inl less) ↦ absurd (both_ways _ (two.passed one.steps less) (ap (λ x. keep (x / 2)) one.there ∙ keeps (after j) (passes.below j j_in)))
           | inl same ↦ sym one.there ∙ ap (λ i. iterate next (suc i) (e j)) same ∙ two.there
           | inr (inr more) ↦
-              let there = found (on (e j)) (on_in j j_in) two.at_end in
+              let there = found (on (e j)) (on_in j j_in) two.kept in
               absurd (one.between two.steps there.0 more there.1 (two.there ∙ sym there.2))
         ]
 

@@ -1,5 +1,5 @@
 -- Webs whose segments become walks of each other have as many parts as each other.
-use Rattle.std.proofs.Common.{◌≡◌, ℕ, zero, suc, ◌+◌, ◌*◌, ◌<◌, ◌≤◌, Bool, true, false, eqb, List, [], ◌∷◌, length, refl, sym, ◌∙◌, ap, subst, arith}
+use Rattle.std.proofs.Common.{◌≡◌, ℕ, ◌*◌, ◌<◌, eqb, List, [], ◌∷◌, length, sym, ◌∙◌, ap, subst, arith}
 use Rattle.std.proofs.lemmas.Bool.{eq-eqb, eqb-true}
 use Rattle.xn_model.specs.Graph.{EndsIn}
 use Rattle.xn_model.specs.Lists.{at}
@@ -37,6 +37,6 @@ pub component_count-transfer : (n k : ℕ) (ends ends' : List (ℕ × ℕ)) (g h
     → component_count n ends ≡ component_count k ends'
 component_count-transfer n k ends ends' g h in_one in_two g_in h_in there back round_one round_two =
     classes_transfer n k (Joined ends) (Joined ends') _ _ g h (PicksOne-components n ends in_one) (PicksOne-components k ends' in_two) g_in h_in
-      (λ a b a_in b_in w. joined_sent ends ends' g there a b w.0 w.1)
-      (λ a b a_in b_in w. joined_sent ends' ends h back a b w.0 w.1)
-      round_one round_two
+    (λ a b a_in b_in w. joined_sent ends ends' g there a b w.0 w.1)
+    (λ a b a_in b_in w. joined_sent ends' ends h back a b w.0 w.1)
+    round_one round_two

@@ -1,17 +1,14 @@
 -- What one more segment does to the parts.
-use Rattle.std.proofs.Common.{◌≡◌, ◌≢◌, ℕ, zero, suc, ◌*◌, ◌<◌, ◌≤◌, ◌⊎◌, inl, inr, eqb, List, [], ◌∷◌, ◌++◌, length, map, max, min, sym, ◌∙◌, ap, arith}
-use Rattle.std.specs.List.{fold, range_with_len}
-use Rattle.std.proofs.lemmas.Bool.{cases_eq, cases_lt, cond-true, cond-false, eq-eqb, ne_eqb}
-use Rattle.std.proofs.lemmas.List.FromFn.{length-range_with_len, get_or-range_with_len}
+use Rattle.std.proofs.Common.{◌≡◌, ◌≢◌, ℕ, suc, ◌<◌, inl, inr, eqb, List, [], ◌∷◌, ◌++◌, max, sym, ◌∙◌, ap, arith}
+use Rattle.std.specs.List.{range_with_len}
+use Rattle.std.proofs.lemmas.Bool.{cases_eq, cases_lt, eq-eqb, ne_eqb}
 use Rattle.std.proofs.lemmas.List.Sums.{fold_push}
-use Rattle.std.proofs.lemmas.List.{get_or_default, length-map}
-use Rattle.std.proofs.Math.ListN.{get_or-map}
-use Rattle.xn_model.specs.Graph.{ends_at, EndsIn}
+use Rattle.xn_model.specs.Graph.{EndsIn}
 use Rattle.xn_model.specs.Lists.{at}
-use Rattle.xn_model.specs.Map.{join_components, component_count, component_labels, relabel, reverse_of, tail_of}
+use Rattle.xn_model.specs.Map.{join_components, component_count, component_labels}
 use Rattle.xn_model.specs.Permutation.{count_below}
 use Rattle.xn_model.proofs.Components.{IsLabelling, IsLabelling-components, cases_relabel, new_label}
-use Rattle.xn_ring.proofs.Orbits.{count-differs, count-same}
+use Rattle.xn_ring.proofs.Counting.{count-differs, count-same}
 
 module _ (nodes : ℕ) (labels : List ℕ) (old : IsLabelling nodes labels) (p : ℕ × ℕ) (u_in : p.0 < nodes) (v_in : p.1 < nodes) where
   label_in : (w : ℕ) → w < nodes → at labels w < nodes
@@ -56,4 +53,3 @@ pub component_count-push_apart : (nodes : ℕ) (ends : List (ℕ × ℕ)) (p : �
 component_count-push_apart nodes ends p h u_in v_in differ =
     count_joined_apart nodes (component_labels nodes ends) (IsLabelling-components nodes ends h) p u_in v_in differ
     ∙ ap (λ labels. suc (count_below nodes (λ w. eqb (at labels w) w))) (sym (fold_push join_components (range_with_len 0 nodes) ends p))
-

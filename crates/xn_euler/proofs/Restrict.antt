@@ -1,20 +1,19 @@
 -- A map on any of its segments, where the rotation passes over the others: it stays flat.
-use Rattle.std.proofs.Common.{◌≡◌, ◌≢◌, ℕ, zero, suc, ◌+◌, ◌-◌, ◌*◌, ◌/◌, ◌<◌, ◌≤◌, ◌⊎◌, inl, inr, Bool, true, false, not, ◌&&◌, eqb, List, length, refl, sym, ◌∙◌, ap, subst, arith}
-use Rattle.std.proofs.lemmas.Bool.{cases_eq, cases_lt, cases_Bool, both_ways, cond-true, cond-false, and_parts, and_from, and_right, eq-eqb, ne_eqb, eqb-false, not-true, not_from_true, not_from_false}
-use Rattle.xn_model.specs.Graph.{EndsIn}
+use Rattle.std.proofs.Common.{◌≡◌, ◌≢◌, ℕ, zero, suc, ◌+◌, ◌-◌, ◌*◌, ◌/◌, ◌<◌, ◌≤◌, inl, inr, Bool, true, false, not, ◌&&◌, eqb, List, length, refl, sym, ◌∙◌, ap, subst, arith}
+use Rattle.std.proofs.lemmas.Bool.{cases_eq, cases_lt, cases_Bool, cond-true, cond-false, and_parts, and_from, and_right, eq-eqb, ne_eqb, eqb-false, not-true, not_from_true, not_from_false}
 use Rattle.xn_model.specs.Map.{IsFlat, IsMap, component_count, face_step, is_lone}
 use Rattle.xn_model.specs.Permutation.{Permutes, count_below, cycle_count, iterate, without}
-use Rattle.xn_euler.specs.Live.{IsFirstAfter, IsFlatOn, IsMapOn, kept, passing_over, without_segment}
+use Rattle.xn_ring.specs.Removals.{IsNextKept}
+use Rattle.xn_euler.specs.Live.{IsFlatOn, IsMapOn, passing_over, without_segment}
 use Rattle.xn_model.proofs.Darts.{cases_dart}
 use Rattle.xn_ring.proofs.Orbits.{iterate-add, iterate_below}
-use Rattle.xn_ring.proofs.Splice.{Permutes-splice}
-use Rattle.xn_ring.proofs.Without.{IsSplice-without, before, without-before, without-other}
+use Rattle.xn_ring.proofs.Without.{Permutes-without, without-before, without-other}
 use Rattle.xn_euler.proofs.Dies.{IsMapOn-deleted}
 use Rattle.xn_euler.proofs.Euler.{dies, dies-at, dies-other, flat_dies, kept-all, kept-congr, whole}
 
 -- g leads each number that passes to the first after it
 abbrev pub LeadsOn : ℕ → (ℕ → Bool) → (ℕ → ℕ) → (ℕ → ℕ) → Type 0
-LeadsOn n passes f g = (d : ℕ) → d < n → passes d ≡ true → IsFirstAfter passes f d (g d)
+LeadsOn n passes f g = (d : ℕ) → d < n → passes d ≡ true → IsNextKept f passes d (g d)
 
 abbrev but : ℕ → (ℕ → Bool) → ℕ → Bool
 but x passes d = passes d && not (eqb d x)
@@ -41,8 +40,8 @@ leads_on_without n passes f g permutes leads x x_in x_passes d d_in h =
           record {
             steps = one.steps;
             there = one.there ∙ sym same;
-            at_end = ap (but x passes) same ∙ but_other x passes (g d) one.at_end other;
-            between = λ i early. but_false x passes _ (one.between i early);
+            kept = ap (but x passes) same ∙ but_other x passes (g d) one.kept other;
+            passed = λ i early. but_false x passes _ (one.passed i early);
           }
       | inl meets ↦
           let two = leads x x_in x_passes in
@@ -54,9 +53,9 @@ leads_on_without n passes f g permutes leads x x_in x_passes d d_in h =
             there =
                 let size : suc (two.steps + suc one.steps) ≡ suc two.steps + suc one.steps = omega arith in
                 ap (λ k. iterate f k d) size ∙ iterate-add f (suc two.steps) (suc one.steps) d ∙ ap (iterate f (suc two.steps)) at_x ∙ two.there ∙ sym same;
-            at_end = ap (but x passes) same ∙ but_other x passes (g x) two.at_end x_moves;
-            between = λ i early. elim (cases_lt i one.steps) [
-              | inl low ↦ but_false x passes _ (one.between i low)
+            kept = ap (but x passes) same ∙ but_other x passes (g x) two.kept x_moves;
+            passed = λ i early. elim (cases_lt i one.steps) [
+              | inl low ↦ but_false x passes _ (one.passed i low)
               | inr high ↦ elim (cases_eq i one.steps) [
                 | inl here ↦ but_at x passes _ (ap (λ k. iterate f (suc k) d) here ∙ at_x)
                 | inr past ↦
@@ -64,7 +63,7 @@ leads_on_without n passes f g permutes leads x x_in x_passes d d_in h =
                     let size : suc i ≡ suc k + suc one.steps = omega (arith, high, past) in
                     let is : iterate f (suc i) d ≡ iterate f (suc k) x =
                     ap (λ m. iterate f m d) size ∙ iterate-add f (suc k) (suc one.steps) d ∙ ap (iterate f (suc k)) at_x in
-                    ap (but x passes) is ∙ but_false x passes _ (two.between k (omega (arith, early, high, past)))
+                    ap (but x passes) is ∙ but_false x passes _ (two.passed k (omega (arith, early, high, past)))
               ]
             ];
           }
@@ -79,8 +78,8 @@ leads_on-congr n p q f g permutes same leads d d_in h =
     record {
       steps = one.steps;
       there = one.there;
-      at_end = sym (same (g d) end_in) ∙ one.at_end;
-      between = λ i early. sym (same (iterate f (suc i) d) (in_range (suc i))) ∙ one.between i early;
+      kept = sym (same (g d) end_in) ∙ one.kept;
+      passed = λ i early. sym (same (iterate f (suc i) d) (in_range (suc i))) ∙ one.passed i early;
     }
 
 -- the dart's segment is live
@@ -107,12 +106,6 @@ both_out live s d = elim (cases_Bool (live (d / 2))) [
         ∙ sym (and_from _ _ l (not_from_false _ (ne_eqb _ _ other)))
   ]
 ]
-
--- a dart out of a rotation
-pub Permutes-without : (n x : ℕ) (g : ℕ → ℕ) → Permutes n g → x < n → Permutes n (without x g)
-Permutes-without n x g permutes x_in =
-    let b = before n x g permutes x_in in
-    Permutes-splice n b.0 x g (without x g) permutes (IsSplice-without n x g permutes x_in) b.1 x_in
 
 pub leads_on_cut : (ends : List (ℕ × ℕ)) (live : ℕ → Bool) (f g : ℕ → ℕ) → Permutes (2 * length ends) f → Permutes (2 * length ends) g → LeadsOn (2 * length ends) (lives live) f g →
     (s : ℕ) → s < length ends → live s ≡ true → LeadsOn (2 * length ends) (lives (dies s live)) f (without_segment s g)
@@ -146,7 +139,7 @@ module _ (nodes : ℕ) (ends : List (ℕ × ℕ)) (next : ℕ → ℕ) (map : Is
         high = λ i late. refl;
         map = whole nodes ends next map;
         flat = λ flat. subst P (sym (kept-all ends)) flat;
-        leads = λ d d_in h. record { steps = 0; there = refl; at_end = refl; between = λ i early. absurd (omega arith) };
+        leads = λ d d_in h. record { steps = 0; there = refl; kept = refl; passed = λ i early. absurd (omega arith) };
       }
   so_far (suc k) k_in =
       let s = so_far k (omega arith) in

@@ -1,20 +1,20 @@
 -- A split of a node never raises the genus.
-use Rattle.std.proofs.Common.{◌≡◌, ◌≢◌, ℕ, zero, suc, ◌+◌, ◌*◌, ◌<◌, ◌≤◌, ◌⊎◌, inl, inr, List, [], ◌∷◌, ◌++◌, length, refl, sym, ◌∙◌, ap, subst, arith}
+use Rattle.std.proofs.Common.{◌≡◌, ◌≢◌, ℕ, suc, ◌+◌, ◌*◌, ◌<◌, ◌≤◌, ◌⊎◌, inl, inr, List, [], ◌∷◌, ◌++◌, length, sym, subst, arith}
 use Rattle.std.proofs.lemmas.Bool.{cases_eq}
 use Rattle.xn_model.specs.Graph.{EndsIn}
 use Rattle.xn_model.specs.Lists.{at}
 use Rattle.xn_model.specs.Map.{face_step, component_count, component_labels, reverse_of, tail_of, Joined}
-use Rattle.xn_model.specs.Permutation.{Permutes, iterate, cycle_count, Reaches, IsSplice}
+use Rattle.xn_model.specs.Permutation.{Permutes, cycle_count, Reaches, IsSplice}
 use Rattle.xn_model.proofs.ComponentWalks.{joined_sym, joined_trans, joined_dart, joined_from_label, label_from_joined}
-use Rattle.xn_model.proofs.Darts.{reverse-reverse, reverse_below, reverse_apart}
-use Rattle.xn_ring.proofs.Orbits.{iterate_below}
+use Rattle.xn_model.proofs.Darts.{reverse_below, reverse_apart}
+use Rattle.xn_ring.proofs.Orbits.{cases_reaches}
 use Rattle.xn_ring.proofs.Splice.{Permutes-splice, splice_undone, cycle_count-joined, cycle_count-split}
 use Rattle.xn_euler.proofs.FaceWalk.{joined_along_face}
-use Rattle.xn_euler.proofs.Counts.{cases_reaches, IsSplice-face, Permutes-face}
+use Rattle.xn_euler.proofs.Counts.{IsSplice-face, Permutes-face}
 use Rattle.xn_euler.proofs.SplitComponents.{component_count-split_joined, component_count-split_apart}
 
 -- the darts that lead to a and to b change their successors, and the arc from a goes to the new node
-module _ (nodes v c e : ℕ) (ends ends' : List (ℕ × ℕ)) (next next' : ℕ → ℕ) (ends_in : EndsIn nodes ends) (ends_in' : EndsIn (suc nodes) ends') (both_in : EndsIn (suc nodes) (ends' ++ (v , nodes) ∷ []))
+module _ (nodes v c e : ℕ) (ends ends' : List (ℕ × ℕ)) (next next' : ℕ → ℕ) (ends_in : EndsIn nodes ends) (ends_in' : EndsIn (suc nodes) ends') (both_in : EndsIn (suc nodes) (ends' ++ (v, nodes) ∷ []))
     (v_in : v < nodes) (same_length : length ends' ≡ length ends) (tail_in : (d : ℕ) → d < 2 * length ends → tail_of ends d < nodes)
     (moves : (d : ℕ) → d < 2 * length ends → (tail_of ends' d ≡ tail_of ends d) ⊎ ((tail_of ends d ≡ v) × (tail_of ends' d ≡ nodes)))
     (permutes : Permutes (2 * length ends) next) (c_in : c < 2 * length ends) (e_in : e < 2 * length ends) (differ : c ≢ e)
@@ -50,7 +50,7 @@ module _ (nodes v c e : ℕ) (ends ends' : List (ℕ × ℕ)) (next next' : ℕ 
       let first = joined_dart ends' c (wide c c_in) in
       let last = joined_dart ends' e (wide e e_in) in
       let whole = joined_trans ends' (tail_of ends' c) (tail_of ends' (reverse_of c)) (tail_of ends' e) first
-            (joined_trans ends' (tail_of ends' (reverse_of c)) (tail_of ends' (reverse_of e)) (tail_of ends' e) walk (joined_sym ends' (tail_of ends' e) (tail_of ends' (reverse_of e)) last)) in
+      (joined_trans ends' (tail_of ends' (reverse_of c)) (tail_of ends' (reverse_of e)) (tail_of ends' e) walk (joined_sym ends' (tail_of ends' e) (tail_of ends' (reverse_of e)) last)) in
       let Q : ℕ → Type 0 = λ z. Joined ends' z (tail_of ends' e) in
       let R : ℕ → Type 0 = λ z. Joined ends' v z in
       subst R e_now (subst Q c_now whole)
@@ -64,20 +64,20 @@ module _ (nodes v c e : ℕ) (ends ends' : List (ℕ × ℕ)) (next next' : ℕ 
       let other : reverse_of c ≢ reverse_of e = λ same. differ (reverse_apart c e same) in
       elim (cases_eq (at labels v) (at labels nodes)) [
         | inl same ↦
-          let joined = joined_from_label (suc nodes) ends' ends_in' v nodes (omega (arith, v_in)) (omega arith) same in
-          let parts = component_count-split_joined nodes v ends ends' ends_in ends_in' both_in v_in same_length tail_in moves joined in
-          elim (cases_reaches n (face_step next) face_permutes (reverse_of c) (reverse_of e) rc_in) [
-            | inl there ↦
-              let split = cycle_count-split n (reverse_of c) (reverse_of e) (face_step next) (face_step next') face_permutes faces rc_in re_in other there in
-              omega (arith, parts, split)
-            | inr away ↦
-              let join = cycle_count-joined n (reverse_of c) (reverse_of e) (face_step next) (face_step next') face_permutes faces rc_in re_in away in
-              omega (arith, parts, join)
-          ]
+            let joined = joined_from_label (suc nodes) ends' ends_in' v nodes (omega (arith, v_in)) (omega arith) same in
+            let parts = component_count-split_joined nodes v ends ends' ends_in ends_in' both_in v_in same_length tail_in moves joined in
+            elim (cases_reaches n (face_step next) face_permutes (reverse_of c) (reverse_of e) rc_in) [
+              | inl there ↦
+                  let split = cycle_count-split n (reverse_of c) (reverse_of e) (face_step next) (face_step next') face_permutes faces rc_in re_in other there in
+                  omega (arith, parts, split)
+              | inr away ↦
+                  let join = cycle_count-joined n (reverse_of c) (reverse_of e) (face_step next) (face_step next') face_permutes faces rc_in re_in away in
+                  omega (arith, parts, join)
+            ]
         | inr not_same ↦
-          let apart : Joined ends' v nodes → ⊥ = λ joined. not_same (label_from_joined (suc nodes) ends' ends_in' v nodes joined) in
-          let parts = component_count-split_apart nodes v ends ends' ends_in ends_in' both_in v_in same_length tail_in moves apart in
-          let join = cycle_count-joined n (reverse_of c) (reverse_of e) (face_step next') (face_step next) face_permutes'
-                (splice_undone n (reverse_of c) (reverse_of e) (face_step next) (face_step next') faces) rc_in re_in (λ there. apart (one_face there)) in
-          omega (arith, parts, join)
+            let apart : Joined ends' v nodes → ⊥ = λ joined. not_same (label_from_joined (suc nodes) ends' ends_in' v nodes joined) in
+            let parts = component_count-split_apart nodes v ends ends' ends_in ends_in' both_in v_in same_length tail_in moves apart in
+            let join = cycle_count-joined n (reverse_of c) (reverse_of e) (face_step next') (face_step next) face_permutes'
+            (splice_undone n (reverse_of c) (reverse_of e) (face_step next) (face_step next') faces) rc_in re_in (λ there. apart (one_face there)) in
+            omega (arith, parts, join)
       ]

@@ -1,9 +1,10 @@
 -- A dart that was alone stands in a corner.
-use Rattle.std.proofs.Common.{◌≡◌, ◌≢◌, ℕ, zero, suc, ◌*◌, ◌<◌, inl, inr, cond, eqb, refl, sym, ◌∙◌, ap, subst}
+use Rattle.std.proofs.Common.{◌≡◌, ◌≢◌, ℕ, zero, suc, ◌<◌, inl, inr, refl, sym, ◌∙◌, ap}
 use Rattle.std.proofs.lemmas.Bool.{cases_eq, cond-true, cond-false, eq-eqb, ne_eqb}
 use Rattle.xn_model.specs.Permutation.{IsSplice, Permutes, Reaches, iterate, without}
 use Rattle.xn_euler.specs.Corners.{Corner, after, lone, stand_at}
-use Rattle.xn_ring.proofs.Orbits.{comes_back, iterate_below}
+use Rattle.xn_ring.proofs.Agreeing.{Permutes-agrees, iterate-agrees}
+use Rattle.xn_ring.proofs.Orbits.{iterate_below}
 use Rattle.xn_ring.proofs.Splice.{Permutes-splice, joined, kept_to}
 use Rattle.xn_ring.proofs.Without.{without-before, without-other}
 
@@ -56,26 +57,9 @@ stand-agree (lone v) z f g x at_d same = elim (cases_eq x z) [
   | inr not_z ↦ alone_other v z f x not_z ∙ same not_z ∙ sym (alone_other v z g x not_z)
 ]
 
--- functions that agree below n
-pub iterate-agree : (n : ℕ) (f g : ℕ → ℕ) → ((x : ℕ) → x < n → f x < n) → ((x : ℕ) → x < n → g x ≡ f x) → (d : ℕ) → d < n → (k : ℕ) → (iterate f k d < n) × (iterate g k d ≡ iterate f k d)
-iterate-agree n f g below same d d_in zero = (d_in, refl)
-iterate-agree n f g below same d d_in (suc k) =
-    let before = iterate-agree n f g below same d d_in k in
-    (below _ before.0, ap g before.1 ∙ same _ before.0)
-
-pub reaches-agree : (n : ℕ) (f g : ℕ → ℕ) → ((x : ℕ) → x < n → f x < n) → ((x : ℕ) → x < n → g x ≡ f x) → (d e : ℕ) → d < n → Reaches f d e → Reaches g d e
-reaches-agree n f g below same d e d_in there = (there.0, (iterate-agree n f g below same d d_in there.0).1 ∙ there.1)
-
-pub Permutes-agree : (n : ℕ) (f g : ℕ → ℕ) → Permutes n f → ((x : ℕ) → x < n → g x ≡ f x) → Permutes n g
-Permutes-agree n f g permutes same = record {
-  below = λ d d_in. let P : ℕ → Type 0 = λ x. x < n in subst P (sym (same d d_in)) (permutes.below d d_in);
-  apart = λ d e d_in e_in eq. permutes.apart d e d_in e_in (sym (same d d_in) ∙ eq ∙ same e e_in);
-}
-
--- a number that is alone is all of its walk
-pub stays_alone : (f : ℕ → ℕ) (d : ℕ) → f d ≡ d → (k : ℕ) → iterate f k d ≡ d
-stays_alone f d alone zero = refl
-stays_alone f d alone (suc k) = ap f (stays_alone f d alone k) ∙ alone
+-- a walk below n is one of each function that agrees there
+pub reaches-agrees : (n : ℕ) (f g : ℕ → ℕ) → Permutes n f → ((x : ℕ) → x < n → g x ≡ f x) → (d e : ℕ) → d < n → Reaches f d e → Reaches g d e
+reaches-agrees n f g permutes same d e d_in there = (there.0, iterate-agrees n f g permutes same d there.0 d_in ∙ there.1)
 
 pub splice_stand : (n d z : ℕ) (f : ℕ → ℕ) → f z ≡ z → d ≢ z → IsSplice n d z f (stand_at (after d) z f)
 splice_stand n d z f alone other = record {
@@ -117,7 +101,7 @@ stood n z (lone v) f permutes z_in alone dart =
       | inr other ↦ alone_other v z f x other
     ] in
     record {
-      permutes = Permutes-agree n f g permutes same;
-      kept = λ p q p_in q_in there. reaches-agree n f g permutes.below same p q p_in there;
+      permutes = Permutes-agrees n f g permutes same;
+      kept = λ p q p_in q_in there. reaches-agrees n f g permutes same p q p_in there;
       joins = tt;
     }

@@ -1,6 +1,6 @@
--- Counts of the numbers that pass two tests, and tests for some number below a bound.
-use Rattle.std.proofs.Common.{◌≡◌, ◌≢◌, ℕ, zero, suc, ◌+◌, ◌*◌, ◌/◌, ◌%◌, ◌<◌, ◌≤◌, ◌⊎◌, inl, inr, Bool, true, false, not, ◌&&◌, ◌||◌, eqb, refl, sym, ◌∙◌, ap, arith}
-use Rattle.std.proofs.lemmas.Bool.{both_ways, cases_Bool, cases_eq, or_cases, or_left, or_right}
+-- Tests for some number below a bound, and on segments.
+use Rattle.std.proofs.Common.{◌≡◌, ℕ, zero, suc, ◌+◌, ◌*◌, ◌/◌, ◌%◌, ◌<◌, inl, inr, Bool, true, false, ◌&&◌, ◌||◌, eqb, refl, sym, ◌∙◌, ap, arith}
+use Rattle.std.proofs.lemmas.Bool.{both_ways, cases_eq, or_cases, or_left, or_right}
 use Rattle.xn_model.specs.Lists.{one_if}
 use Rattle.xn_model.specs.Permutation.{count_below}
 
@@ -22,16 +22,6 @@ some_below-to (suc n) p h = elim (or_cases (p n) (some_below n p) h) [
   | inl last ↦ (n, omega arith, last)
   | inr before ↦ let found = some_below-to n p before in (found.0, omega (arith, found.1), found.2)
 ]
-
--- those that pass p pass q too, or don't
-pub count_below-parts : (n : ℕ) (p q : ℕ → Bool) → count_below n p ≡ count_below n (λ d. p d && q d) + count_below n (λ d. p d && not (q d))
-count_below-parts zero p q = refl
-count_below-parts (suc n) p q = omega (arith, count_below-parts n p q, one (p n) (q n))
-  where
-    one : (x y : Bool) → one_if x ≡ one_if (x && y) + one_if (x && not y)
-    one true true = refl
-    one true false = refl
-    one false y = refl
 
 -- a test on segments, as one on their first darts
 pub count_below-darts : (m : ℕ) (q : ℕ → Bool) → count_below (2 * m) (λ d. eqb (d % 2) 0 && q (d / 2)) ≡ count_below m q

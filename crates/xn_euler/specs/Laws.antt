@@ -2,7 +2,8 @@
 use Rattle.std.specs.Prelude.{◌≡◌, ℕ, Bool, true, ◌+◌, ◌*◌, ◌/◌, ◌<◌, ◌≤◌, List, length}
 use Rattle.xn_model.specs.Graph.{Graph}
 use Rattle.xn_model.specs.Map.{IsFlat, IsFlatMap, IsMap, component_count, face_count}
-use Rattle.xn_euler.specs.Live.{IsFirstAfter, IsFlatOn, IsMapOn, passing_over}
+use Rattle.xn_ring.specs.Removals.{IsNextKept}
+use Rattle.xn_euler.specs.Live.{IsFlatOn, IsMapOn, passing_over}
 use Rattle.xn_euler.specs.Part.{IsPart, PassesOver}
 
 -- V - E + F is at most 2C for every map, by addition
@@ -19,7 +20,7 @@ FlatOnAnySegments =
     (web : Graph) (next : ℕ → ℕ) → IsFlatMap web next → (keep : ℕ → Bool) →
     let after : ℕ → ℕ = passing_over keep (length web.ends) next in
     IsMapOn web.ends keep after × IsFlatOn web.nodes web.ends keep after
-    × ((d : ℕ) → d < 2 * length web.ends → keep (d / 2) ≡ true → IsFirstAfter (λ x. keep (x / 2)) next d (after d))
+    × ((d : ℕ) → d < 2 * length web.ends → keep (d / 2) ≡ true → IsNextKept next (λ x. keep (x / 2)) d (after d))
 
 -- each part of a map has a rotation that passes over all other darts
 abbrev pub PartsHaveRotations : Type 0

@@ -1,7 +1,7 @@
 -- Maps of some segments of a web, with the web's own numbers: every other dart is alone. They serve the proofs.
 use Rattle.std.specs.Prelude.{◌≡◌, ℕ, zero, suc, ◌+◌, ◌*◌, ◌/◌, ◌<◌, Bool, true, false, List, [], ◌∷◌, length, if◌then◌else◌}
 use Rattle.xn_model.specs.Map.{component_count, face_step, is_lone, tail_of}
-use Rattle.xn_model.specs.Permutation.{Permutes, Reaches, count_below, cycle_count, iterate, without}
+use Rattle.xn_model.specs.Permutation.{Permutes, Reaches, count_below, cycle_count, without}
 
 -- the segments that live keeps
 abbrev pub kept : (ℕ → Bool) → List (ℕ × ℕ) → List (ℕ × ℕ)
@@ -32,10 +32,3 @@ without_segment s next = without (2 * s + 1) (without (2 * s) next)
 abbrev pub passing_over : (ℕ → Bool) → ℕ → (ℕ → ℕ) → ℕ → ℕ
 passing_over keep zero next = next
 passing_over keep (suc k) next = if keep k then passing_over keep k next else without_segment k (passing_over keep k next)
-
--- z is the first number after d, along f, that passes
-pub record IsFirstAfter (passes : ℕ → Bool) (f : ℕ → ℕ) (d z : ℕ) : Type 0 where
-  pub steps : ℕ
-  pub there : iterate f (suc steps) d ≡ z
-  pub at_end : passes z ≡ true
-  pub between : (i : ℕ) → i < steps → passes (iterate f (suc i) d) ≡ false

@@ -14,6 +14,10 @@ returns-clause-counts c = λ nodes ends renumbered e next after map is. (
 
 pub returns-clause-flat : goal.returns-clause-flat
 returns-clause-flat c = λ nodes ends renumbered e next after map is flat.
-    omega (arith, flat, is.all,
-    faces_renumbered nodes ends renumbered e next after map is.segments is.all is.below is.turns,
-    components_renumbered nodes ends renumbered e next after map is.segments is.all is.below is.turns)
+    omega (
+      arith,
+      flat,
+      is.all,
+      faces_renumbered nodes ends renumbered e next after map is.segments is.all is.below is.turns,
+      components_renumbered nodes ends renumbered e next after map is.segments is.all is.below is.turns,
+    )
