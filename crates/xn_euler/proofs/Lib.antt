@@ -1,4 +1,5 @@
 pub mod Compress
+pub mod Contract
 pub mod Counts
 pub mod Delete
 pub mod Dies

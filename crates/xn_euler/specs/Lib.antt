@@ -1,3 +1,4 @@
+pub mod Contraction
 pub mod Deletion
 pub mod Laws
 pub mod Live

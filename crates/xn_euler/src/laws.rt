@@ -1,4 +1,5 @@
 //! Laws on the genus of maps. Each is the contract of a function with an empty body.
+ghost use Rattle.xn_euler.specs.Contraction.{ContractionKeepsCounts, ContractionKeepsFlat, ContractionLeavesAMap};
 ghost use Rattle.xn_euler.specs.Deletion.{DeletionJoinsFaces, DeletionKeepsComponents, DeletionKeepsFlat, DeletionLeavesAMap, DeletionSplitsAComponent, DeletionSplitsAFace};
 ghost use Rattle.xn_euler.specs.Laws.{FlatOnAnySegments, GenusIsNotNegative, PartsAreMaps, PartsHaveRotations, PartsStayFlat};
 ghost use Rattle.xn_euler.specs.Insertion.{InsertionJoinsComponents, InsertionJoinsFaces, InsertionKeepsComponents, InsertionKeepsFlat, InsertionLeavesAMap, InsertionSplitsAFace, OtherInsertionsAreNotFlat};
@@ -58,4 +59,11 @@ pub fn insertion()
     ensures apart { InsertionJoinsComponents }
     ensures flat { InsertionKeepsFlat }
     ensures others { OtherInsertionsAreNotFlat }
+{}
+
+/// Chains of segments become one segment each: faces and components stay, and genus zero both ways.
+pub fn contraction()
+    ensures map { ContractionLeavesAMap }
+    ensures counts { ContractionKeepsCounts }
+    ensures flat { ContractionKeepsFlat }
 {}
