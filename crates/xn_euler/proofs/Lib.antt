@@ -18,4 +18,5 @@ pub mod Restrict
 pub mod SplitComponents
 pub mod SplitGenus
 pub mod Stand
+pub mod Subdivide
 pub mod Tests

@@ -6,3 +6,4 @@ pub mod Part
 pub mod Renumbering
 pub mod Corners
 pub mod Insertion
+pub mod Subdivision

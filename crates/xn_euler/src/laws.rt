@@ -3,6 +3,7 @@ ghost use Rattle.xn_euler.specs.Contraction.{ContractionKeepsCounts, Contraction
 ghost use Rattle.xn_euler.specs.Deletion.{DeletionJoinsFaces, DeletionKeepsComponents, DeletionKeepsFlat, DeletionLeavesAMap, DeletionSplitsAComponent, DeletionSplitsAFace};
 ghost use Rattle.xn_euler.specs.Laws.{FlatOnAnySegments, GenusIsNotNegative, PartsAreMaps, PartsHaveRotations, PartsStayFlat};
 ghost use Rattle.xn_euler.specs.Insertion.{InsertionJoinsComponents, InsertionJoinsFaces, InsertionKeepsComponents, InsertionKeepsFlat, InsertionLeavesAMap, InsertionSplitsAFace, OtherInsertionsAreNotFlat};
+ghost use Rattle.xn_euler.specs.Subdivision.{SubdivisionKeepsCounts, SubdivisionKeepsFlat, SubdivisionLeavesAMap};
 ghost use Rattle.xn_euler.specs.Renumbering.{NodeComes, NodeComesFlat, NodeGoes, NodeGoesFlat, NodeRenumberingKeepsCounts, NodeRenumberingKeepsFlat, NodeRenumberingLeavesAMap, RenumberingKeepsCounts, RenumberingKeepsFlat, RenumberingLeavesAMap};
 
 /// Euler's inequality: V - E + F is at most 2C for every map.
@@ -66,4 +67,11 @@ pub fn contraction()
     ensures map { ContractionLeavesAMap }
     ensures counts { ContractionKeepsCounts }
     ensures flat { ContractionKeepsFlat }
+{}
+
+/// A new node on a segment: faces and components stay, and genus zero both ways.
+pub fn subdivision()
+    ensures map { SubdivisionLeavesAMap }
+    ensures counts { SubdivisionKeepsCounts }
+    ensures flat { SubdivisionKeepsFlat }
 {}
