@@ -38,7 +38,7 @@ EndsIn_tails nodes ends each = EndsIn_from nodes ends (λ s s_in.
     let second = each (2 * s + 1) (omega arith) in
     (omega (arith, first, tail-even ends s), omega (arith, second, tail-odd ends s)))
 
-half_reverse : (d : ℕ) → reverse_of d / 2 ≡ d / 2
+pub half_reverse : (d : ℕ) → reverse_of d / 2 ≡ d / 2
 half_reverse d = let c = cases_dart d in elim c.1 [
   | inl even ↦ let r : reverse_of d ≡ 2 * c.0 + 1 = ap reverse_of even ∙ reverse-even c.0 in omega (arith, r, even)
   | inr odd ↦ let r : reverse_of d ≡ 2 * c.0 = ap reverse_of odd ∙ reverse-odd c.0 in omega (arith, r, odd)

@@ -15,6 +15,7 @@ pub mod Part
 pub mod Parted
 pub mod Pushed
 pub mod Restrict
+pub mod Smooth
 pub mod SplitComponents
 pub mod SplitGenus
 pub mod Stand

@@ -7,3 +7,4 @@ pub mod Renumbering
 pub mod Corners
 pub mod Insertion
 pub mod Subdivision
+pub mod Smoothing

@@ -3,6 +3,7 @@ ghost use Rattle.xn_euler.specs.Contraction.{ContractionKeepsCounts, Contraction
 ghost use Rattle.xn_euler.specs.Deletion.{DeletionJoinsFaces, DeletionKeepsComponents, DeletionKeepsFlat, DeletionLeavesAMap, DeletionSplitsAComponent, DeletionSplitsAFace};
 ghost use Rattle.xn_euler.specs.Laws.{FlatOnAnySegments, GenusIsNotNegative, PartsAreMaps, PartsHaveRotations, PartsStayFlat};
 ghost use Rattle.xn_euler.specs.Insertion.{InsertionJoinsComponents, InsertionJoinsFaces, InsertionKeepsComponents, InsertionKeepsFlat, InsertionLeavesAMap, InsertionSplitsAFace, OtherInsertionsAreNotFlat};
+ghost use Rattle.xn_euler.specs.Smoothing.{SmoothingKeepsCounts, SmoothingKeepsFlat, SmoothingLeavesAMap};
 ghost use Rattle.xn_euler.specs.Subdivision.{SubdivisionKeepsCounts, SubdivisionKeepsFlat, SubdivisionLeavesAMap};
 ghost use Rattle.xn_euler.specs.Renumbering.{NodeComes, NodeComesFlat, NodeGoes, NodeGoesFlat, NodeRenumberingKeepsCounts, NodeRenumberingKeepsFlat, NodeRenumberingLeavesAMap, RenumberingKeepsCounts, RenumberingKeepsFlat, RenumberingLeavesAMap};
 
@@ -74,4 +75,11 @@ pub fn subdivision()
     ensures map { SubdivisionLeavesAMap }
     ensures counts { SubdivisionKeepsCounts }
     ensures flat { SubdivisionKeepsFlat }
+{}
+
+/// A node with two darts goes, and its two segments become one: faces and components stay, and genus zero both ways.
+pub fn smoothing()
+    ensures map { SmoothingLeavesAMap }
+    ensures counts { SmoothingKeepsCounts }
+    ensures flat { SmoothingKeepsFlat }
 {}
