@@ -16,6 +16,7 @@ pub mod Parted
 pub mod Pushed
 pub mod Restrict
 pub mod Smooth
+pub mod Split
 pub mod SplitComponents
 pub mod SplitGenus
 pub mod Stand

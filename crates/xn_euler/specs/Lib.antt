@@ -8,3 +8,4 @@ pub mod Corners
 pub mod Insertion
 pub mod Subdivision
 pub mod Smoothing
+pub mod Splitting

@@ -3,6 +3,7 @@ ghost use Rattle.xn_euler.specs.Contraction.{ContractionKeepsCounts, Contraction
 ghost use Rattle.xn_euler.specs.Deletion.{DeletionJoinsFaces, DeletionKeepsComponents, DeletionKeepsFlat, DeletionLeavesAMap, DeletionSplitsAComponent, DeletionSplitsAFace};
 ghost use Rattle.xn_euler.specs.Laws.{FlatOnAnySegments, GenusIsNotNegative, PartsAreMaps, PartsHaveRotations, PartsStayFlat};
 ghost use Rattle.xn_euler.specs.Insertion.{InsertionJoinsComponents, InsertionJoinsFaces, InsertionKeepsComponents, InsertionKeepsFlat, InsertionLeavesAMap, InsertionSplitsAFace, OtherInsertionsAreNotFlat};
+ghost use Rattle.xn_euler.specs.Splitting.{SplitJoinsFaces, SplitKeepsComponents, SplitKeepsFlat, SplitLeavesAMap, SplitSplitsAComponent, SplitSplitsAFace};
 ghost use Rattle.xn_euler.specs.Smoothing.{SmoothingKeepsCounts, SmoothingKeepsFlat, SmoothingLeavesAMap};
 ghost use Rattle.xn_euler.specs.Subdivision.{SubdivisionKeepsCounts, SubdivisionKeepsFlat, SubdivisionLeavesAMap};
 ghost use Rattle.xn_euler.specs.Renumbering.{NodeComes, NodeComesFlat, NodeGoes, NodeGoesFlat, NodeRenumberingKeepsCounts, NodeRenumberingKeepsFlat, NodeRenumberingLeavesAMap, RenumberingKeepsCounts, RenumberingKeepsFlat, RenumberingLeavesAMap};
@@ -82,4 +83,14 @@ pub fn smoothing()
     ensures map { SmoothingLeavesAMap }
     ensures counts { SmoothingKeepsCounts }
     ensures flat { SmoothingKeepsFlat }
+{}
+
+/// A node is split: some darts that follow each other go to a new node.
+pub fn splitting()
+    ensures map { SplitLeavesAMap }
+    ensures split { SplitSplitsAFace }
+    ensures join { SplitJoinsFaces }
+    ensures joined { SplitKeepsComponents }
+    ensures apart { SplitSplitsAComponent }
+    ensures flat { SplitKeepsFlat }
 {}
