@@ -9,6 +9,7 @@ pub mod Insert
 pub mod InsertFaces
 pub mod InsertFlat
 pub mod Kept
+pub mod Listed
 pub mod Lone
 pub mod Nodes
 pub mod Part

@@ -4,7 +4,7 @@ use Rattle.xn_model.specs.Graph.{Graph}
 use Rattle.xn_model.specs.Map.{IsFlat, IsFlatMap, IsMap, component_count, face_count}
 use Rattle.xn_ring.specs.Removals.{IsNextKept}
 use Rattle.xn_euler.specs.Live.{IsFlatOn, IsMapOn, passing_over}
-use Rattle.xn_euler.specs.Part.{IsPart, PassesOver}
+use Rattle.xn_euler.specs.Part.{AreDartsApart, AreSegmentsApart, IsPart, PassesOver, dart_along, dart_listed, ends_along, ends_listed}
 
 -- V - E + F is at most 2C for every map, by addition
 abbrev pub GenusIsNotNegative : Type 0
@@ -39,3 +39,12 @@ abbrev pub PartsStayFlat : Type 0
 PartsStayFlat =
     (nodes : ℕ) (ends part : List (ℕ × ℕ)) (e next after : ℕ → ℕ) → IsMap nodes ends next → IsPart ends part e →
     PassesOver (2 * length part) e next after → IsFlat nodes ends next → IsFlat nodes part after
+
+-- listed darts of different segments make a part, and so do listed segments
+abbrev pub ListedDartsAreAPart : Type 0
+ListedDartsAreAPart =
+    (ends : List (ℕ × ℕ)) (darts : List ℕ) → AreDartsApart ends darts → IsPart ends (ends_along ends darts) (dart_along darts)
+
+abbrev pub ListedSegmentsAreAPart : Type 0
+ListedSegmentsAreAPart =
+    (ends : List (ℕ × ℕ)) (segments : List ℕ) → AreSegmentsApart ends segments → IsPart ends (ends_listed ends segments) (dart_listed segments)

@@ -9,3 +9,4 @@ pub mod Insertion
 pub mod Subdivision
 pub mod Smoothing
 pub mod Splitting
+pub mod Resolution

@@ -1,9 +1,10 @@
 //! Laws on the genus of maps. Each is the contract of a function with an empty body.
 ghost use Rattle.xn_euler.specs.Contraction.{ContractionKeepsCounts, ContractionKeepsFlat, ContractionLeavesAMap};
 ghost use Rattle.xn_euler.specs.Deletion.{DeletionJoinsFaces, DeletionKeepsComponents, DeletionKeepsFlat, DeletionLeavesAMap, DeletionSplitsAComponent, DeletionSplitsAFace};
-ghost use Rattle.xn_euler.specs.Laws.{FlatOnAnySegments, GenusIsNotNegative, PartsAreMaps, PartsHaveRotations, PartsStayFlat};
+ghost use Rattle.xn_euler.specs.Laws.{FlatOnAnySegments, GenusIsNotNegative, ListedDartsAreAPart, ListedSegmentsAreAPart, PartsAreMaps, PartsHaveRotations, PartsStayFlat};
 ghost use Rattle.xn_euler.specs.Insertion.{InsertionJoinsComponents, InsertionJoinsFaces, InsertionKeepsComponents, InsertionKeepsFlat, InsertionLeavesAMap, InsertionSplitsAFace, OtherInsertionsAreNotFlat};
 ghost use Rattle.xn_euler.specs.Splitting.{SplitJoinsFaces, SplitKeepsComponents, SplitKeepsFlat, SplitLeavesAMap, SplitSplitsAComponent, SplitSplitsAFace};
+ghost use Rattle.xn_euler.specs.Resolution.{ResolutionKeepsFlat, ResolutionLeavesAMap};
 ghost use Rattle.xn_euler.specs.Smoothing.{SmoothingKeepsCounts, SmoothingKeepsFlat, SmoothingLeavesAMap};
 ghost use Rattle.xn_euler.specs.Subdivision.{SubdivisionKeepsCounts, SubdivisionKeepsFlat, SubdivisionLeavesAMap};
 ghost use Rattle.xn_euler.specs.Renumbering.{NodeComes, NodeComesFlat, NodeGoes, NodeGoesFlat, NodeRenumberingKeepsCounts, NodeRenumberingKeepsFlat, NodeRenumberingLeavesAMap, RenumberingKeepsCounts, RenumberingKeepsFlat, RenumberingLeavesAMap};
@@ -19,6 +20,8 @@ pub fn restriction()
     ensures rotation { PartsHaveRotations }
     ensures map { PartsAreMaps }
     ensures flat { PartsStayFlat }
+    ensures darts { ListedDartsAreAPart }
+    ensures segments { ListedSegmentsAreAPart }
 {}
 
 /// A segment goes out of its rings, and the last segment takes its number.
@@ -93,4 +96,10 @@ pub fn splitting()
     ensures joined { SplitKeepsComponents }
     ensures apart { SplitSplitsAComponent }
     ensures flat { SplitKeepsFlat }
+{}
+
+/// A crossing is resolved: its node is split into two, and both are smoothed.
+pub fn resolution()
+    ensures map { ResolutionLeavesAMap }
+    ensures flat { ResolutionKeepsFlat }
 {}

@@ -1,3 +1,4 @@
+use Rattle.xn_euler.proofs.Listed.{part_along, part_listed}
 use Rattle.xn_euler.proofs.Part.{flat_of_part, map_of_part, passes_over}
 use Rattle.xn_euler.proofs.Restrict.{restricted_flat, restricted_leads, restricted_map}
 use Rattle.xn_euler.proofs.laws.restriction.Goals as goal
@@ -17,3 +18,9 @@ returns-clause-map c = λ nodes ends part e next after map is passes. map_of_par
 
 pub returns-clause-flat : goal.returns-clause-flat
 returns-clause-flat c = λ nodes ends part e next after map is passes. flat_of_part nodes ends part e next map is after passes
+
+pub returns-clause-darts : goal.returns-clause-darts
+returns-clause-darts c = part_along
+
+pub returns-clause-segments : goal.returns-clause-segments
+returns-clause-segments c = part_listed
