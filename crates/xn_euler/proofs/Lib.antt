@@ -12,6 +12,8 @@ pub mod Kept
 pub mod Listed
 pub mod Lone
 pub mod Nodes
+pub mod Overlay
+pub mod OverlayComponents
 pub mod Part
 pub mod Parted
 pub mod Pushed

@@ -2,6 +2,7 @@ pub mod Contraction
 pub mod Deletion
 pub mod Laws
 pub mod Live
+pub mod Overlay
 pub mod Part
 pub mod Renumbering
 pub mod Corners

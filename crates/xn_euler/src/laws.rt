@@ -7,6 +7,7 @@ ghost use Rattle.xn_euler.specs.Splitting.{SplitJoinsFaces, SplitKeepsComponents
 ghost use Rattle.xn_euler.specs.Resolution.{ResolutionKeepsFlat, ResolutionLeavesAMap};
 ghost use Rattle.xn_euler.specs.Smoothing.{SmoothingKeepsCounts, SmoothingKeepsFlat, SmoothingLeavesAMap};
 ghost use Rattle.xn_euler.specs.Subdivision.{SubdivisionKeepsCounts, SubdivisionKeepsFlat, SubdivisionLeavesAMap};
+ghost use Rattle.xn_euler.specs.Overlay.{OverlayAddsCounts, OverlayIsAMap, OverlayKeepsFlat};
 ghost use Rattle.xn_euler.specs.Renumbering.{NodeComes, NodeComesFlat, NodeGoes, NodeGoesFlat, NodeRenumberingKeepsCounts, NodeRenumberingKeepsFlat, NodeRenumberingLeavesAMap, RenumberingKeepsCounts, RenumberingKeepsFlat, RenumberingLeavesAMap};
 
 /// Euler's inequality: V - E + F is at most 2C for every map.
@@ -102,4 +103,11 @@ pub fn splitting()
 pub fn resolution()
     ensures map { ResolutionLeavesAMap }
     ensures flat { ResolutionKeepsFlat }
+{}
+
+/// Two maps of the same nodes that share at most one node, laid over each other.
+pub fn overlay()
+    ensures map { OverlayIsAMap }
+    ensures counts { OverlayAddsCounts }
+    ensures flat { OverlayKeepsFlat }
 {}
