@@ -1,5 +1,5 @@
 -- The roots of a forest.
-use Rattle.std.proofs.Common.{◌≡◌, ◌≢◌, ℕ, zero, suc, ◌+◌, ◌-◌, ◌<◌, ◌≤◌, ◌⊎◌, inl, inr, Bool, true, false, List, [], ◌∷◌, ◌++◌, length, max, min, set, refl, sym, ◌∙◌, ap, arith}
+use Rattle.std.proofs.Common.{◌≡◌, ◌≢◌, ℕ, zero, suc, ◌+◌, ◌-◌, ◌<◌, ◌≤◌, ◌⊎◌, inl, inr, List, [], ◌∷◌, ◌++◌, length, max, min, set, refl, sym, ◌∙◌, ap, arith}
 use Rattle.std.specs.List.{fold, range_with_len}
 use Rattle.std.specs.Prelude.{◌==◌}
 use Rattle.std.proofs.lemmas.Bool.{cases_eq, cases_lt, eq-eqb, eqb-true}
@@ -12,13 +12,8 @@ use Rattle.xn_model.specs.Map.{component_count, component_labels, join_component
 use Rattle.xn_model.specs.Permutation.{count_below, iterate}
 use Rattle.xn_model.proofs.Components.{at-join_components, cases_relabel}
 use Rattle.xn_map.specs.Forest.{HoldsComponents, IsForest, root_of}
-use Rattle.xn_map.proofs.Orbits.{count-same, iterate-step, iterate-add}
-
--- two tests that follow from each other agree
-same_tests : (x y : Bool) → (x ≡ true → y ≡ true) → (y ≡ true → x ≡ true) → x ≡ y
-same_tests true y there back = sym (there refl)
-same_tests false true there back = back refl
-same_tests false false there back = refl
+use Rattle.xn_ring.proofs.Counting.{count-same, same_tests}
+use Rattle.xn_ring.proofs.Orbits.{iterate-add, iterate-step}
 
 cases_min : (a b : ℕ) → (min a b ≡ a) ⊎ (min a b ≡ b)
 cases_min a b = elim (cases_lt a b) [ inl low ↦ inl (omega arith) | inr high ↦ inr (omega arith) ]

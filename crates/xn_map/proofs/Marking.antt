@@ -6,7 +6,7 @@ use Rattle.std.proofs.lemmas.List.{get_or-set_same, get_or-set_other}
 use Rattle.xn_model.specs.Permutation.{Permutes, Reaches, count_below, is_least, iterate}
 use Rattle.xn_map.specs.Marks.{IsClosed, MarksCycle, MarksCyclesBelow, is_marked}
 use Rattle.xn_map.proofs.Counting.{count_below-no, count_below-yes}
-use Rattle.xn_map.proofs.Orbits.{IsLeast-from_test, iterate_below, reaches_back, reaches_step, reaches_trans, test-from_IsLeast}
+use Rattle.xn_ring.proofs.Orbits.{IsLeast-from_test, iterate_below, reaches_back, reaches_step, reaches_trans, test-from_IsLeast}
 
 -- the first k numbers of the walk from d are marked besides, and nothing else
 abbrev pub MarksWalk : ℕ → (ℕ → ℕ) → ℕ → ℕ → List Bool → List Bool → Type 0

@@ -11,7 +11,8 @@ use xn_graph::Web;
 
 /// The number of components of a web.
 pub fn component_count(alloc: Global, web: &Web) -> Result<u64, AllocError>
-    ensures { IfOk result (λ count. count ≡ component_count web.now.nodes web.now.ends) }
+    ensures components { IfOk result (λ count. count ≡ component_count web.now.nodes web.now.ends) }
+    ensures few { IfOk result (λ count. count ≤ 2 ^ 30) }
 {
     let parents = forest(alloc, web)?;
     Ok(root_count(&parents) as u64)
@@ -61,7 +62,8 @@ fn join_ends(parents: &mut [u32], web: &Web)
 // The number of roots.
 fn root_count(parents: &[u32]) -> usize
     requires { length parents.now < 2 ^ 32 }
-    ensures { result ≡ count_by (λ v. at parents.now v == v) (range_with_len 0 (length parents.now)) }
+    ensures roots { result ≡ count_by (λ v. at parents.now v == v) (range_with_len 0 (length parents.now)) }
+    ensures few { result ≤ length parents.now }
 {
     (0..parents.len() as u32)
         .filter(|v| parents[*v as usize] == *v)

@@ -2,5 +2,12 @@
 #![tactic(auto)]
 
 mod components;
+mod corners;
+mod darts;
 mod faces;
 mod lone;
+mod maps;
+mod rotation;
+
+pub use corners::Corner;
+pub use maps::{Map, MapErr};

@@ -1,5 +1,5 @@
 // Nodes without darts.
-ghost use Rattle.std.specs.Prelude.{◌≡◌, ◌≤◌, length, false, replicate, IfOk, count_by, not};
+ghost use Rattle.std.specs.Prelude.{◌≡◌, ◌^◌, ◌≤◌, length, false, replicate, IfOk, count_by, not};
 ghost use Rattle.xn_model.specs.Map.{is_lone};
 ghost use Rattle.xn_model.specs.Permutation.{count_below};
 ghost use Rattle.xn_map.specs.Marks.{MarksEnds};
@@ -9,7 +9,8 @@ use xn_graph::Web;
 
 /// The number of nodes without darts.
 pub fn lone_count(alloc: Global, web: &Web) -> Result<u64, AllocError>
-    ensures { IfOk result (λ count. count ≡ count_below web.now.nodes (is_lone web.now.ends)) }
+    ensures lone { IfOk result (λ count. count ≡ count_below web.now.nodes (is_lone web.now.ends)) }
+    ensures few { IfOk result (λ count. count ≤ 2 ^ 30) }
 {
     let mut met = vec![in alloc; false; web.nodes() as usize]?;
     mark_ends(met.as_mut_slice(), web);
@@ -18,7 +19,8 @@ pub fn lone_count(alloc: Global, web: &Web) -> Result<u64, AllocError>
 
 // How many numbers aren't marked.
 fn unmarked_count(marks: &[bool]) -> usize
-    ensures { result ≡ count_by not marks.now }
+    ensures unmarked { result ≡ count_by not marks.now }
+    ensures few { result ≤ length marks.now }
 {
     marks.iter().filter(|mark| !**mark).count()
 }

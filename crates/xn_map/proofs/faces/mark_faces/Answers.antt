@@ -1,17 +1,10 @@
 use Rattle.std.proofs.Common.{◌<◌, ◌+◌, ℕ, Bool, List, length, ◌∙◌, arith}
 use Rattle.xn_model.specs.Lists.{at}
 use Rattle.xn_model.specs.Map.{face_step}
-use Rattle.xn_model.specs.Permutation.{is_least}
-use Rattle.xn_map.proofs.Counting.{count_below-le}
 use Rattle.xn_map.proofs.FaceSteps.{Permutes-face_step}
 use Rattle.xn_map.proofs.Marking.{CountsCycles, IsClosed-from_below, counts_fresh, counts_marked}
 use Rattle.xn_map.proofs.faces.mark_faces.Goals as goal
 use Rattle.xn_map.proofs.faces.mark_faces.Goals.{then-not-marks-d, else-not-marks-d}
-
-pub overflow_add-count : goal.overflow_add-count
-overflow_add-count c =
-    let n = length c.args.rings.now in
-    omega (arith, c.loop-d.invariant.cycles.counted, count_below-le c.loop-d.d (is_least n (face_step (at c.args.rings.now))), c.loop-d-test.true, c.len-d-end.ensures.len, c.len-d-end.ensures.small)
 
 pub mark_face-requires-clause-closed : goal.mark_face-requires-clause-closed
 mark_face-requires-clause-closed c =
@@ -40,5 +33,6 @@ loop-d-preserved c =
     ] in
     record {
       cycles = counts;
+      few = elim c.if-not-marks-d.branch [ then-not-marks-d w ↦ omega (arith, w.count-is, old.few) | else-not-marks-d w ↦ omega (arith, w.count-is, old.few) ];
       same_length = c.if-not-marks-d.auto.marks ∙ old.same_length;
     }
