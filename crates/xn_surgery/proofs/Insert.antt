@@ -19,7 +19,7 @@ use Rattle.xn_genus.proofs.Delete.{joins_faces, keeps_components, splits_a_compo
 use Rattle.xn_genus.proofs.Lone.{no_dart_if_lone}
 use Rattle.xn_surgery.proofs.Stand.{AtDart, Stood, reaches-agrees, stand-agree, stand_at_dart, stand_new, stand_other, alone_new, stand_undone, stood}
 
-without-agree : (x : ℕ) (f g : ℕ → ℕ) (p : ℕ) → g p ≡ f p → g x ≡ f x → without x g p ≡ without x f p
+pub without-agree : (x : ℕ) (f g : ℕ → ℕ) (p : ℕ) → g p ≡ f p → g x ≡ f x → without x g p ≡ without x f p
 without-agree x f g p same same_x = elim (cases_eq p x) [
   | inl here ↦ cond-true _ _ _ (eq-eqb p x here) ∙ sym (cond-true _ _ _ (eq-eqb p x here))
   | inr other ↦ elim (cases_eq (f p) x) [

@@ -1,11 +1,12 @@
 // Calls that change a map.
-ghost use Rattle.std.specs.Prelude.{◌≡◌, ◌≢◌, ◌+◌, ◌^◌, ◌<◌, ◌⊎◌, IfOk, OnErr, OnOk, length};
+ghost use Rattle.std.specs.Prelude.{◌≡◌, ◌≢◌, ◌+◌, ◌*◌, ◌^◌, ◌<◌, ◌≤◌, ◌⊎◌, IfOk, OnErr, OnOk, length};
 ghost use Rattle.xn_model.specs.Lists.{at};
 ghost use Rattle.xn_model.specs.Map.{Joined};
+ghost use Rattle.xn_model.specs.Permutation.{Permutes};
 ghost use Rattle.xn_graph.specs.Limits.{graph_of};
-ghost use Rattle.xn_map.specs.Changes.{Inserts, IsFreeCorner, Stands, StaysFlat, node_of};
+ghost use Rattle.xn_map.specs.Changes.{Deletes, Inserts, IsFilled, IsFreeCorner, IsOut, Stands, StaysFlat, TakesOut, TakesPlace, node_of};
 ghost use Rattle.xn_map.specs.Corners.{InOneFace, IsCorner};
-ghost use Rattle.xn_map.specs.Listed.{map_of};
+ghost use Rattle.xn_map.specs.Listed.{IsListedMap, map_of};
 
 use crate::corners::Corner;
 use crate::maps::Map;
@@ -56,6 +57,20 @@ impl Map {
         }
     }
 
+    /// Takes a segment out of its rings; the last one takes its number. Nodes stay. It takes no memory.
+    pub fn remove_edge(&mut self, s: u32)
+        requires { s < length self.old.web.ends }
+        ensures map { IsListedMap self.old }
+        ensures deleted { Deletes self.old s self.new }
+    {
+        let last = self.web.segments() - 1;
+        take_out(&mut self.rings, 2 * s);
+        take_out(&mut self.rings, 2 * s + 1);
+        fill(&mut self.rings, s, last);
+        self.rings.shrink(2);
+        self.web.remove_segment(s);
+    }
+
     // The node of a corner.
     fn node_of(&self, corner: Corner) -> u32
         requires { IsCorner self.now corner }
@@ -80,4 +95,39 @@ fn stand(rings: &mut Rings, corner: Corner, z: u32)
         Corner::After(d) => rings.splice(d, z),
         Corner::Lone(_) => {}
     }
+}
+
+// Takes a dart out of its ring, so that it is alone.
+fn take_out(rings: &mut Rings, d: u32)
+    requires dart { d < length rings.old }
+    requires permutes { Permutes (length rings.old) (at rings.old) }
+    ensures { TakesOut d rings.old rings.new }
+{
+    let before = rings.prev(d);
+    rings.splice(before, d);
+}
+
+// Puts a dart that is alone in the place of another, which is alone then.
+fn take_place(rings: &mut Rings, x: u32, d: u32)
+    requires darts { (x < length rings.old) × (d < length rings.old) × (x ≢ d) }
+    requires alone { at rings.old d ≡ d }
+    requires permutes { Permutes (length rings.old) (at rings.old) }
+    ensures { TakesPlace x d rings.old rings.new }
+{
+    let before = rings.prev(x);
+    rings.splice(before, d);
+    rings.splice(d, x);
+}
+
+// Puts the last segment in the place of one that is out.
+fn fill(rings: &mut Rings, s: u32, last: u32)
+    requires few { last < 2 ^ 30 }
+    requires out { IsOut s last rings.old }
+    ensures { IsFilled s last rings.old rings.new }
+{
+    if s == last {
+        return;
+    }
+    take_place(rings, 2 * last, 2 * s);
+    take_place(rings, 2 * last + 1, 2 * s + 1);
 }
