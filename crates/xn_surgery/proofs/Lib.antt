@@ -5,6 +5,7 @@ pub mod InsertFaces
 pub mod InsertFlat
 pub mod Overlay
 pub mod OverlayComponents
+pub mod Resolve
 pub mod Smooth
 pub mod Split
 pub mod SplitComponents
