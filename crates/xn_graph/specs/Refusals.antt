@@ -1,5 +1,5 @@
 -- Where a graph or a web is refused: the first cause in the order of the errors.
-use Rattle.std.specs.Prelude.{ℕ, ◌^◌, ◌<◌, ◌≤◌, ◌⊎◌, List, length}
+use Rattle.std.specs.Prelude.{◌≡◌, ℕ, ◌^◌, ◌<◌, ◌≤◌, ◌⊎◌, List, length}
 use Rattle.xn_model.specs.Graph.{ends_at}
 use Rattle.xn_graph.specs.Limits.{HasNodes, IsEdge}
 use Rattle.xn_graph.specs.declared.graphs.GraphErr.{GraphErr}
@@ -24,7 +24,7 @@ abbrev pub IsRefused : ℕ → List (ℕ × ℕ) → GraphErr → Type 0
 IsRefused nodes ends TooManyNodes = 1000 < nodes
 IsRefused nodes ends TooManyEdges = (nodes ≤ 1000) × (1000 < length ends)
 IsRefused nodes ends (End e) = IsFirstFlaw nodes ends e × ¬ (HasNodes nodes (ends_at ends e))
-IsRefused nodes ends (Loop e) = IsFirstFlaw nodes ends e × HasNodes nodes (ends_at ends e)
+IsRefused nodes ends (Loop e) = IsFirstFlaw nodes ends e × HasNodes nodes (ends_at ends e) × ((ends_at ends e).0 ≡ (ends_at ends e).1)
 
 -- a web of these nodes and ends is refused for this cause
 abbrev pub IsRefusedWeb : ℕ → List (ℕ × ℕ) → WebErr → Type 0

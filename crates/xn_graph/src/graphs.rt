@@ -31,9 +31,9 @@ pub enum GraphErr {
     Loop(u32),
 }
 
-/// A graph: nodes 0 to n - 1 and edges that each join two different nodes. Parallel edges are two.
+/// A graph: nodes 0 to n - 1 and edges that each join two different nodes. Parallel edges are separate edges.
 ///
-/// It has at most 1,000 nodes and 1,000 edges.
+/// It has at most 1,000 nodes and 1,000 edges, and is seen as the number of its nodes and the list of its ends.
 #[derive(Debug, Drop)]
 pub struct Graph {
     nodes: u32,
@@ -52,7 +52,8 @@ impl Model for Graph {
 }
 
 impl Graph {
-    /// The graph of these nodes and ends.
+    /// The graph of these nodes and ends. It refuses too many nodes, then too many edges, then the first edge that doesn't
+    /// join two different nodes.
     pub fn make(nodes: u32, ends: Vec<(u32, u32)>) -> Result<Graph, GraphErr>
         ensures ok { let g = graph_of nodes ends.items in OkIff result (IsLimitedGraph g) g }
         ensures err { (e : GraphErr) → IsErrOf result e ↔ IsRefused nodes ends.items e }
@@ -117,7 +118,7 @@ impl Graph {
         count
     }
 
-    /// The independent pairs of edges, the smaller edge first, in lexicographic order.
+    /// The independent pairs of edges, the smaller edge first, in lexicographic order. It fails only for want of memory.
     pub fn pairs(&self, alloc: Global) -> Result<Vec<(u32, u32)>, AllocError>
         ensures { IfOk result (λ list. list.items ≡ pairs_of self.now.ends (edges_of self.now)) }
     {
@@ -151,7 +152,7 @@ impl Graph {
         Ok(())
     }
 
-    /// The same graph again.
+    /// The same graph again. It fails only for want of memory.
     pub fn copy(&self, alloc: Global) -> Result<Graph, AllocError>
         ensures { IfOk result (λ g. g ≡ self.now) }
     {

@@ -25,7 +25,7 @@ pub enum WebErr {
 
 /// A web: nodes 0 to n - 1 and segments between them. It may have loops and parallel segments.
 ///
-/// It has at most 2^30 nodes and 2^30 segments.
+/// It has at most 2^30 nodes and 2^30 segments, and is seen as the number of its nodes and the list of its ends.
 #[derive(Debug, Drop)]
 pub struct Web {
     nodes: u32,
@@ -44,7 +44,8 @@ impl Model for Web {
 }
 
 impl Web {
-    /// The web of these nodes and ends.
+    /// The web of these nodes and ends. It refuses too many nodes or segments, then the first segment with an end that is no
+    /// node.
     pub fn make(nodes: u32, ends: Vec<(u32, u32)>) -> Result<Web, WebErr>
         ensures ok { let web = graph_of nodes ends.items in OkIff result (IsLimitedWeb web) web }
         ensures err { (e : WebErr) → IsErrOf result e ↔ IsRefusedWeb nodes ends.items e }
@@ -83,7 +84,7 @@ impl Web {
         self.ends[s as usize]
     }
 
-    /// The same web again.
+    /// The same web again. It fails only for want of memory.
     pub fn copy(&self, alloc: Global) -> Result<Web, AllocError>
         ensures { IfOk result (λ w. w ≡ self.now) }
     {

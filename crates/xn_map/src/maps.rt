@@ -166,11 +166,10 @@ impl Map {
         ensures { IsTrue result ↔ InOneFace (at self.now.next) a b }
     {
         match (a, b) {
-            (Corner::After(d), Corner::After(e)) => in_one_face(
-                &self.rings,
-                self.next(d),
-                self.next(e),
-            ),
+            (Corner::After(d), Corner::After(e)) => {
+                let (start, sought) = (self.next(d), self.next(e));
+                in_one_face(&self.rings, start, sought)
+            }
             (Corner::Lone(u), Corner::Lone(v)) => u == v,
             (Corner::After(_), Corner::Lone(_)) | (Corner::Lone(_), Corner::After(_)) => false,
         }

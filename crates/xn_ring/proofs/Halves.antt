@@ -3,7 +3,7 @@ use Rattle.std.proofs.Common.{◌≡◌, ◌≢◌, ℕ, zero, suc, ◌+◌, ◌
 use Rattle.std.proofs.lemmas.Bool.{both_ways, cases_eq, cases_lt, le-ltb, lt-ltb, ltb-true}
 use Rattle.xn_model.specs.Permutation.{Permutes, cycle_count, is_least, iterate}
 use Rattle.xn_ring.proofs.Counting.{count-all, count-same}
-use Rattle.xn_ring.proofs.Marked.{parts_add_up, same_along}
+use Rattle.xn_ring.proofs.Marked.{parts_add_up, walks_stay}
 use Rattle.xn_ring.proofs.Orbits.{comes_back, test-from_IsLeast}
 use Rattle.xn_ring.proofs.Restriction.{has_cycles_of}
 use Rattle.xn_ring.specs.Parts.{HasCyclesOfBoth, IsBeside, IsRestriction}
@@ -103,12 +103,13 @@ module _ (n k : ℕ) (g h f : ℕ → ℕ) (g_permutes : Permutes n g) (h_permut
         count = omega (arith, both, low.count, high.count);
         low = λ d e d_in e_in. ((low.walks d e d_in e_in).1, (low.walks d e d_in e_in).0);
         high = λ d e d_in e_in. ((high.walks d e d_in e_in).1, (high.walks d e d_in e_in).0);
-        across = λ d e d_in e_in. (
-          λ there. both_ways (is_low (n + e)) (le-ltb (n + e) n (omega arith))
-              (ap is_low (sym there.1) ∙ same_along (n + k) f is_low Permutes-beside stays_in there.0 d (omega arith) ∙ lt-ltb d n d_in),
-          λ there. both_ways (is_low (n + e)) (le-ltb (n + e) n (omega arith))
-              (sym (same_along (n + k) f is_low Permutes-beside stays_in there.0 (n + e) (omega arith)) ∙ ap is_low there.1 ∙ lt-ltb d n d_in),
-        );
+        across = λ d e d_in e_in.
+            let low_d = lt-ltb d n d_in in
+            let high_e = le-ltb (n + e) n (omega arith) in
+            let stay = walks_stay (n + k) f is_low Permutes-beside stays_in in (
+              λ there. both_ways (is_low (n + e)) high_e (stay d (n + e) (omega arith) there ∙ low_d),
+              λ there. both_ways (is_low (n + e)) high_e (sym (stay (n + e) d (omega arith) there) ∙ low_d),
+            );
       }
 
 -- a permutation that keeps the numbers below n

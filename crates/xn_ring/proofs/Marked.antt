@@ -47,6 +47,9 @@ module _ (n : ℕ) (f : ℕ → ℕ) (p : ℕ → Bool) (permutes : Permutes n f
   same_along zero d d_in = refl
   same_along (suc k) d d_in = closed (iterate f k d) (iterate_below n f permutes k d d_in) ∙ same_along k d d_in
 
+  pub walks_stay : (d e : ℕ) → d < n → Reaches f d e → p e ≡ p d
+  walks_stay d e d_in there = ap p (sym there.1) ∙ same_along there.0 d d_in
+
   any_is : (d : ℕ) → d < n → list_any p (walk f n d) ≡ p d
   any_is d d_in = same_tests (list_any p (walk f n d)) (p d)
       (λ passes. let found = any_walk_at p f n d passes in sym (same_along found.0 d d_in) ∙ found.2)

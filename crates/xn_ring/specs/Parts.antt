@@ -14,27 +14,33 @@ AllCyclesHold =
     (n : ℕ) (f : ℕ → ℕ) (p : ℕ → Bool) → ((d : ℕ) → d < n → p d ≡ true) →
     cycle_count_with n f p ≡ cycle_count n f
 
--- where each cycle passes whole or not at all, the two parts make up all cycles
+-- where each number leads to one that passes like itself, walks stay among those
+abbrev pub WalksStay : Type 0
+WalksStay =
+    (n : ℕ) (f : ℕ → ℕ) (p : ℕ → Bool) → Permutes n f → ((d : ℕ) → d < n → p (f d) ≡ p d) →
+    (d e : ℕ) → d < n → Reaches f d e → p e ≡ p d
+
+-- and the two parts make up all cycles
 abbrev pub PartsAddUp : Type 0
 PartsAddUp =
     (n : ℕ) (f : ℕ → ℕ) (p : ℕ → Bool) → Permutes n f → ((d : ℕ) → d < n → p (f d) ≡ p d) →
     cycle_count n f ≡ cycle_count_with n f p + cycle_count_with n f (λ d. not (p d))
 
--- m different marks below b pass, and the walk from d comes to the place of each
+-- of the marks below b, each at a place, the walk from d comes to the places of m different ones
 pub record HoldsMarks (b m : ℕ) (marked : ℕ → Bool) (place : ℕ → ℕ) (f : ℕ → ℕ) (d : ℕ) : Type 0 where
   pub marks : List ℕ
   pub enough : length marks ≡ m
   pub different : IsDistinct nat_eq marks
   pub there : All (λ t. (t < b) × (marked t ≡ true) × Reaches f d (place t)) marks
 
--- where each cycle holds m marks, m times the number of cycles is at most the number of marks
+-- where each cycle with a number that passes holds m marks, m times their number is at most the number of marks
 abbrev pub MarksAreMany : Type 0
 MarksAreMany =
     (n b m : ℕ) (f place : ℕ → ℕ) (p marked : ℕ → Bool) → Permutes n f →
     ((d : ℕ) → d < n → p d ≡ true → HoldsMarks b m marked place f d) →
     m * cycle_count_with n f p ≤ count_below b marked
 
--- the numbers below k stand for the kept numbers below n, and g leads from each to the next that f comes to
+-- the numbers below k stand for the kept numbers below n, and g leads to the next kept number along f
 pub record IsRestriction (n k : ℕ) (keep : ℕ → Bool) (code : ℕ → ℕ) (f g : ℕ → ℕ) : Type 0 where
   pub code_in : (j : ℕ) → j < k → (code j < n) × (keep (code j) ≡ true)
   pub apart : (i j : ℕ) → i < k → j < k → code i ≡ code j → i ≡ j

@@ -1,6 +1,6 @@
 //! Laws of permutations: functions on the numbers below a bound, their walks and the number of their cycles.
 //! Each function here does nothing: its contract is the law.
-ghost use Rattle.xn_ring.specs.Parts.{AllCyclesHold, HalvesAddUp, HalvesComeApart, MarksAreMany, PartsAddUp, RestrictionsKeepCycles, TopIsAPair, TopIsAlone};
+ghost use Rattle.xn_ring.specs.Parts.{AllCyclesHold, HalvesAddUp, HalvesComeApart, MarksAreMany, PartsAddUp, RestrictionsKeepCycles, TopIsAPair, TopIsAlone, WalksStay};
 ghost use Rattle.xn_ring.specs.Removals.{TakesAllOut, TakesOut};
 ghost use Rattle.xn_ring.specs.Swaps.{ListsSwap, SwapsAreUndone, SwapsCutRings, SwapsJoin, SwapsLeaveOthers, SwapsOfOne, SwapsPermute, SwapsSplit};
 ghost use Rattle.xn_ring.specs.Transfers.{InversesAreThere, RenumberingKeepsCycles, TransfersKeepCycles, UndoingIsInverse};
@@ -43,6 +43,7 @@ pub fn removals()
 /// The cycles of a part of the numbers.
 pub fn parts()
     ensures all { AllCyclesHold }
+    ensures stay { WalksStay }
     ensures two { PartsAddUp }
     ensures marks { MarksAreMany }
     ensures restrictions { RestrictionsKeepCycles }
