@@ -1,4 +1,5 @@
-ghost use Rattle.std.specs.Prelude.{◌≡◌, ◌^◌, ◌<◌, ◌≤◌, ◌↔◌, IfOk, IsErrOf, IfNone, IfSome, OkIff, length};
+ghost use Rattle.std.specs.Prelude.{◌≡◌, ◌+◌, ◌^◌, ◌<◌, ◌≤◌, ◌↔◌, [], ◌∷◌, ◌++◌, IfOk, IsErrOf, IfNone, IfSome, OkIff, OnErr, OnOk, length};
+ghost use Rattle.std.specs.List.{swap_remove};
 ghost use Rattle.xn_model.specs.Graph.{ends_at};
 ghost use Rattle.xn_graph.specs.Limits.{IsLimitedWeb, HasNodes, graph_of};
 ghost use Rattle.xn_graph.specs.Refusals.{IsRefusedWeb};
@@ -92,6 +93,34 @@ impl Web {
             nodes: self.nodes,
             ends,
         })
+    }
+
+    /// One node more, the last, without segments. It takes no memory.
+    pub fn add_node(&mut self)
+        requires few { self.old.nodes < 2 ^ 30 }
+        ensures added { self.new ≡ graph_of (self.old.nodes + 1) self.old.ends }
+    {
+        self.nodes += 1;
+    }
+
+    /// One segment more, the last. After want of memory the web is as before.
+    pub fn add_segment(&mut self, u: u32, v: u32) -> Result<(), AllocError>
+        requires few { length self.old.ends < 2 ^ 30 }
+        requires nodes { HasNodes self.old.nodes (u, v) }
+        ensures ok { OnOk result (self.new ≡ graph_of self.old.nodes (self.old.ends ++ (u, v) ∷ [])) }
+        ensures err { OnErr result (self.new ≡ self.old) }
+    {
+        self.ends.reserve(1)?;
+        self.ends.push_reserved((u, v));
+        Ok(())
+    }
+
+    /// Takes a segment out; the last one takes its number. It takes no memory.
+    pub fn remove_segment(&mut self, s: u32)
+        requires { s < length self.old.ends }
+        ensures { self.new ≡ graph_of self.old.nodes (swap_remove self.old.ends s (0, 0)) }
+    {
+        self.ends.swap_remove(s as usize);
     }
 }
 

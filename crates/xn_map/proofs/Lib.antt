@@ -1,6 +1,9 @@
+pub mod Changes
 pub mod Counting
 pub mod FaceSteps
+pub mod Fill
 pub mod Forest
 pub mod JoinedNodes
 pub mod Marking
+pub mod Removed
 pub mod Rotations

@@ -1,3 +1,4 @@
+pub mod Changes
 pub mod Corners
 pub mod Faces
 pub mod Forest

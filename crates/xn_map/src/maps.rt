@@ -7,6 +7,8 @@ ghost use Rattle.xn_map.specs.Listed.{IsFlatListed, IsListedMap, components_of, 
 ghost use Rattle.xn_map.specs.Rotation.{IsRotationFlaw};
 ghost use Rattle.xn_map.specs.declared.maps.MapErr.TheVariants.{Memory};
 
+mod changes;
+
 use crate::components::{component_count, in_one_component};
 use crate::corners::Corner;
 use crate::darts;

@@ -1,0 +1,7 @@
+//! Surgery that keeps the genus of a map: what the plain calls of maps do, and that a flat map stays flat.
+#![tactic(auto)]
+
+mod deletion;
+pub mod laws;
+
+pub use deletion::delete_edge;
