@@ -1,0 +1,7 @@
+//! Exact fractions whose two numbers fit an `i128`.
+#![tactic(auto)]
+
+mod frac;
+mod whole;
+
+pub use frac::{Frac, Wide};
