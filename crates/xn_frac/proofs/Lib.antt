@@ -6,3 +6,4 @@ pub mod Lowest
 pub mod Ratios
 pub mod Sums
 pub mod Products
+pub mod Wholes

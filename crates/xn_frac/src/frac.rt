@@ -1,7 +1,7 @@
 // Fractions in lowest terms.
 ghost use Rattle.std.specs.Prelude.{◌≡◌, ◌≢◌, ◌^◌, OnOk, OnSome, IfNone, IfSome, ◌<◌, ◌↔◌, ℤ, pos, neg_ℤ, ◌<ℤ◌, IsTrue, IfOk, IfErr, MatchOption, unsigned_abs};
 ghost use Rattle.std.specs.Int.{IsGcd};
-ghost use Rattle.xn_frac.specs.Ratio.{ratio_of, plus, minus_of, minus, times, over, IsBelow, IsFrac, IsFracOf, SumFits, CanAdd, CanSub, CanMul, CanDiv, IsRefused, inverse_of, sum_num, sum_den};
+ghost use Rattle.xn_frac.specs.Ratio.{whole, ratio_of, plus, minus_of, minus, times, over, IsBelow, IsFrac, IsFracOf, SumFits, CanAdd, CanSub, CanMul, CanDiv, IsRefused, inverse_of, sum_num, sum_den};
 
 use crate::whole;
 use std::marker::Model;
@@ -43,6 +43,14 @@ impl Frac {
         ensures { IsFracOf (ratio_of num den) result }
     {
         lowest(num, den.unsigned_abs())
+    }
+
+    /// A whole number.
+    pub fn whole(num: i128) -> Frac
+        requires { neg_ℤ (pos (2 ^ 127)) <ℤ num }
+        ensures { result ≡ whole num }
+    {
+        Frac { num, den: 1 }
     }
 
     /// The numerator.

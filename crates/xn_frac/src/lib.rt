@@ -2,6 +2,6 @@
 #![tactic(auto)]
 
 mod frac;
-mod whole;
+pub mod whole;
 
 pub use frac::{Frac, Wide};

@@ -1,10 +1,10 @@
-// Whole numbers for fractions. Where both numbers are below 2^64 a division is one of 64 bits.
+//! Whole numbers for fractions. Where both numbers are below 2^64 a division is one of 64 bits.
 ghost use Rattle.std.specs.Prelude.{◌≡◌, ◌+◌, ◌*◌, ◌/◌, ◌^◌, ◌<◌, ◌↔◌, ℤ, pos, ◌+ℤ◌, ◌*ℤ◌, IsTrue};
 ghost use Rattle.std.specs.Int.{IsGcd};
 ghost use Rattle.std.specs.Option.{SomeIff};
 ghost use Rattle.xn_frac.specs.Ratio.{IsInRange, signed};
 
-// The greatest common divisor, by Euclid's algorithm.
+/// The greatest common divisor, by Euclid's algorithm.
 pub fn gcd(a: u128, b: u128) -> u128
     ensures { IsGcd a b result }
 {
@@ -35,7 +35,7 @@ fn short_gcd(a: u64, b: u64) -> u64
     x
 }
 
-// The whole part of a / b.
+/// The whole part of a / b.
 pub fn quotient(a: u128, b: u128) -> u128
     requires { 0 < b }
     ensures { result ≡ a / b }
@@ -47,7 +47,7 @@ pub fn quotient(a: u128, b: u128) -> u128
     }
 }
 
-// The product, if it is in range.
+/// The product, if it is in range.
 pub fn product(a: u128, b: u128) -> Option<u128>
     ensures { SomeIff result (IsInRange (pos (a * b))) (a * b) }
 {
@@ -58,7 +58,7 @@ pub fn product(a: u128, b: u128) -> Option<u128>
     if size < 1 << 127 { Some(size) } else { None }
 }
 
-// -size or size.
+/// -size or size.
 pub fn with_sign(negative: bool, size: u128) -> i128
     requires { size < 2 ^ 127 }
     ensures { result ≡ signed negative size }
@@ -67,7 +67,7 @@ pub fn with_sign(negative: bool, size: u128) -> i128
     if negative { -size } else { size }
 }
 
-// The sum, if it is in range.
+/// The sum, if it is in range.
 pub fn sum(m: i128, n: i128) -> Option<i128>
     ensures { SomeIff result (IsInRange (m +ℤ n)) (m +ℤ n) }
 {
@@ -79,7 +79,7 @@ pub fn sum(m: i128, n: i128) -> Option<i128>
     }
 }
 
-// n * k, if it is in range.
+/// n * k, if it is in range.
 pub fn scaled(n: i128, k: u128) -> Option<i128>
     ensures { SomeIff result (IsInRange (n *ℤ pos k)) (n *ℤ pos k) }
 {
@@ -87,7 +87,7 @@ pub fn scaled(n: i128, k: u128) -> Option<i128>
     Some(with_sign(n < 0, size))
 }
 
-// Whether a / b is below c / d. Where the whole parts agree, the parts that are left are compared, each turned over.
+/// Whether a / b is below c / d. Where the whole parts agree, the parts that are left are compared, each turned over.
 pub fn is_below(a: u128, b: u128, c: u128, d: u128) -> bool
     requires left { 0 < b }
     requires right { 0 < d }
