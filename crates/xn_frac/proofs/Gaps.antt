@@ -1,6 +1,7 @@
 -- Whole numbers as differences of two natural numbers, by which identities of sums and products are proved:
 -- `by_gap` puts a difference for a variable, `simp gaps` makes one difference of each side, and `gap-same` compares.
-use Rattle.std.proofs.Common.{◌≡◌, ℕ, ◌+◌, ◌*◌, arith, ap, sym, subst}
+use Rattle.std.proofs.Common.{◌≡◌, ℕ, ◌+◌, ◌*◌, arith, ap, sym, subst, ◌≤◌}
+use Rattle.std.specs.Prelude.{◌≤ℤ◌}
 use Rattle.std.proofs.Math.IntN.{ℤ, pos, negsuc, ◌+ℤ◌, ◌*ℤ◌, neg_ℤ}
 use Rattle.std.proofs.lemmas.Int.{ints}
 use borrow.Author.Differences.{up, down, product_is, same_in, sum_is_lem, neg_is}
@@ -16,6 +17,14 @@ gap-same a b c d e = omega (arith, ints)
 pub same-gap : (a b c d : ℕ) → gap a b ≡ gap c d → a + d ≡ c + b
 unfolding gap
 same-gap a b c d e = omega (arith, ints)
+
+pub le-gap : (a b c d : ℕ) → gap a b ≤ℤ gap c d → a + d ≤ c + b
+unfolding gap
+le-gap a b c d h = omega (arith, ints)
+
+pub gap-le : (a b c d : ℕ) → a + d ≤ c + b → gap a b ≤ℤ gap c d
+unfolding gap
+gap-le a b c d h = omega (arith, ints)
 
 pub gap-add : (a b c d : ℕ) → gap a b +ℤ gap c d ≡ gap (a + c) (b + d)
 unfolding gap

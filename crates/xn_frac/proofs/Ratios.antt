@@ -1,11 +1,11 @@
 -- The same number written in two ways.
-use Rattle.std.proofs.Common.{◌≡◌, ℕ, ◌+◌, ◌*◌, ◌<◌, ◌≤◌, arith, ap, sym, ◌∙◌}
-use Rattle.std.specs.Prelude.{ℤ, pos, ◌*ℤ◌, unsigned_abs}
+use Rattle.std.proofs.Common.{◌≡◌, ℕ, ◌+◌, ◌*◌, ◌<◌, ◌≤◌, arith, ap, sym, ◌∙◌, subst}
+use Rattle.std.specs.Prelude.{ℤ, pos, ◌*ℤ◌, unsigned_abs, ◌≤ℤ◌}
 use Rattle.std.specs.Int.{IsGcd}
-use Rattle.std.proofs.Math.Nat.{eq_of_mul-eq-mul_right, mul-le-mul_right}
+use Rattle.std.proofs.Math.Nat.{eq_of_mul-eq-mul_right, mul-le-mul_right, le_of_mul-le-mul_right}
 use Rattle.std.proofs.lemmas.Int.{unsigned_abs-mul}
 use Rattle.xn_frac.specs.Ratio.{Ratio, Same, IsFracOf}
-use Rattle.xn_frac.proofs.Gaps.{gap, gaps, gap-same, same-gap, by_gap, by_gap2}
+use Rattle.xn_frac.proofs.Gaps.{gap, gaps, gap-same, same-gap, le-gap, gap-le, by_gap, by_gap2}
 use Rattle.xn_frac.proofs.Coprime.{one_lowest}
 
 gap_cancel : (a b c d k : ℕ) → 0 < k → gap (a * k) (b * k) ≡ gap (c * k) (d * k) → gap a b ≡ gap c d
@@ -20,6 +20,27 @@ gap_times a b k = simp gaps (gap-same _ _ _ _ (omega arith))
 pub cancel : (x y : ℤ) (k : ℕ) → 0 < k → x *ℤ pos k ≡ y *ℤ pos k → x ≡ y
 cancel x y k above = by_gap2 (λ x y. x *ℤ pos k ≡ y *ℤ pos k → x ≡ y)
     (λ a b c d e. gap_cancel a b c d k above (sym (gap_times a b k) ∙ e ∙ gap_times c d k)) x y
+
+gap_le_cancel : (a b c d k : ℕ) → 0 < k → gap (a * k) (b * k) ≤ℤ gap (c * k) (d * k) → gap a b ≤ℤ gap c d
+gap_le_cancel a b c d k above e =
+    let sums : a * k + d * k ≤ c * k + b * k = le-gap _ _ _ _ e in
+    let product : (a + d) * k ≤ (c + b) * k = omega (arith, sums) in
+    gap-le a b c d (le_of_mul-le-mul_right product above)
+
+-- so is one of an order
+pub le_cancel : (x y : ℤ) (k : ℕ) → 0 < k → (x *ℤ pos k) ≤ℤ (y *ℤ pos k) → x ≤ℤ y
+le_cancel x y k above = by_gap2 (λ x y. (x *ℤ pos k) ≤ℤ (y *ℤ pos k) → x ≤ℤ y)
+    (λ a b c d e. gap_le_cancel a b c d k above (subst (λ t. t ≤ℤ gap (c * k) (d * k)) (gap_times a b k) (subst (λ t. (gap a b *ℤ pos k) ≤ℤ t) (gap_times c d k) e))) x y
+
+gap_le_times : (a b c d k : ℕ) → gap a b ≤ℤ gap c d → gap (a * k) (b * k) ≤ℤ gap (c * k) (d * k)
+gap_le_times a b c d k e =
+    let product : (a + d) * k ≤ (c + b) * k = mul-le-mul_right k (le-gap a b c d e) in
+    gap-le _ _ _ _ (omega (arith, product))
+
+-- an order is kept by a factor
+pub le_times : (x y : ℤ) (k : ℕ) → x ≤ℤ y → (x *ℤ pos k) ≤ℤ (y *ℤ pos k)
+le_times x y k = by_gap2 (λ x y. x ≤ℤ y → (x *ℤ pos k) ≤ℤ (y *ℤ pos k))
+    (λ a b c d e. subst (λ t. t ≤ℤ (gap c d *ℤ pos k)) (sym (gap_times a b k)) (subst (λ t. gap (a * k) (b * k) ≤ℤ t) (sym (gap_times c d k)) (gap_le_times a b c d k e))) x y
 
 -- the order of two factors is free
 pub swapped : (x : ℤ) (m n : ℕ) → x *ℤ pos m *ℤ pos n ≡ x *ℤ pos n *ℤ pos m

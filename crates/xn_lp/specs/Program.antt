@@ -9,8 +9,8 @@ use Rattle.xn_lp.specs.declared.program.LpErr.{LpErr}
 use Rattle.xn_lp.specs.declared.program.LpErr.TheVariants.{Wide, PivotCap, TooLarge, Memory}
 
 -- the term at k: a column and its coefficient
-abbrev pub term_at : LpRow → ℕ → ℕ × ℤ
-term_at row k = slice_index_or row.terms k (0, pos 0)
+abbrev pub term_at : List (ℕ × ℤ) → ℕ → ℕ × ℤ
+term_at terms k = slice_index_or terms k (0, pos 0)
 
 -- the row at i
 abbrev pub row_at : Lp → ℕ → LpRow
@@ -22,11 +22,11 @@ cost_at lp j = slice_index_or lp.cost j (pos 0)
 
 -- every term names a column
 abbrev pub NamesColumns : Lp → Type 0
-NamesColumns lp = (i k : ℕ) → i < length lp.rows → k < length (row_at lp i).terms → (term_at (row_at lp i) k).0 < length lp.cost
+NamesColumns lp = (i k : ℕ) → i < length lp.rows → k < length (row_at lp i).terms → (term_at (row_at lp i).terms k).0 < length lp.cost
 
 -- the sum of a row at x
 abbrev pub row_sum : LpRow → (ℕ → Ratio) → Ratio
-row_sum row x = sum_to (length row.terms) (λ k. times (whole (term_at row k).1) (x (term_at row k).0))
+row_sum row x = sum_to (length row.terms) (λ k. times (whole (term_at row.terms k).1) (x (term_at row.terms k).0))
 
 -- the cost of x
 abbrev pub cost_of : Lp → (ℕ → Ratio) → Ratio

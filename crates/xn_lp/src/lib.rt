@@ -1,10 +1,19 @@
 //! Linear programs over a box, solved exactly.
 #![tactic(auto)]
 
+mod checks;
 mod items;
+mod pivot;
+mod prices;
 mod program;
+mod scaled;
+mod simplex;
+mod solve;
+mod stop;
+mod table;
 mod whole;
 
 pub use items::Items;
 pub use program::{Lp, LpAnswer, LpErr, LpRow};
+pub use solve::solve_lp;
 pub use xn_frac::{Frac, Wide};

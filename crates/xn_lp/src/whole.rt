@@ -35,6 +35,14 @@ impl Whole {
         }
     }
 
+    /// The number, which is in range.
+    pub fn from_num(value: i128) -> Whole
+        requires { neg_ℤ (pos (2 ^ 127)) <ℤ value }
+        ensures { result ≡ value }
+    {
+        Whole { value }
+    }
+
     /// The number.
     pub fn value(self) -> i128
         ensures value { result ≡ self }
