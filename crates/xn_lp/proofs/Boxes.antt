@@ -20,10 +20,10 @@ dens : ℕ → (ℕ → Ratio) → ℕ
 dens zero x = 1
 dens (suc n) x = dens n x * (x n).den
 
-dens_above : (n : ℕ) (x : ℕ → Ratio) → IsInBox n x → 0 < dens n x
+dens_above : (n : ℕ) (x : ℕ → Ratio) → ((j : ℕ) → j < n → 0 < (x j).den) → 0 < dens n x
 unfolding dens
 dens_above zero x h = omega arith
-dens_above (suc n) x h = above_product (dens n x) (x n).den (dens_above n x (λ j l. h j (omega arith))) (h n (omega arith)).positive
+dens_above (suc n) x h = above_product (dens n x) (x n).den (dens_above n x (λ j l. h j (omega arith))) (h n (omega arith))
 
 den_divides : (n j : ℕ) (x : ℕ → Ratio) → j < n → (x j).den ∣ dens n x
 unfolding dens
@@ -53,13 +53,23 @@ unit_within p u d above unit is =
     (subst (λ t. t ≤ℤ u) (zero-*ℤ d) (over-at_most (whole (pos 0)) p (pos 0 *ℤ d) u d above (over-whole (pos 0) d) is unit.low)
     , subst (λ t. u ≤ℤ t) (one_mul d) (over-at_most p (whole (pos 1)) u (pos 1 *ℤ d) d above is (over-whole (pos 1) d) unit.high))
 
+-- any numbers over one denominator
+pub record CommonAny (n : ℕ) (x : ℕ → Ratio) (u : ℕ → ℤ) (d : ℤ) : Type 0 where
+  pub above : pos 0 <ℤ d
+  pub over : (j : ℕ) → j < n → IsOver (x j) (u j) d
+
+pub common_any : (n : ℕ) (x : ℕ → Ratio) → ((j : ℕ) → j < n → 0 < (x j).den) → (u : ℕ → ℤ) × (d : ℤ) × CommonAny n x u d
+common_any n x h =
+    (λ j. (x j).num *ℤ pos (dens n x / (x j).den), pos (dens n x), record {
+      above = (let nat : 0 < dens n x = dens_above n x h in omega (arith, ints));
+      over = λ j l. over_dens (x j) (dens n x) (h j l) (den_divides n j x l)
+    })
+
 pub common : (n : ℕ) (x : ℕ → Ratio) → IsInBox n x → (u : ℕ → ℤ) × (d : ℤ) × Common n x u d
-common n x h =
-    let above : pos 0 <ℤ pos (dens n x) = let nat : 0 < dens n x = dens_above n x h in omega (arith, ints) in
-    let over : (j : ℕ) → j < n → IsOver (x j) ((x j).num *ℤ pos (dens n x / (x j).den)) (pos (dens n x))
-             = λ j l. over_dens (x j) (dens n x) (h j l).positive (den_divides n j x l) in
-    (λ j. (x j).num *ℤ pos (dens n x / (x j).den), pos (dens n x),
-      record { above = above; over = over; within = λ j l. unit_within (x j) _ (pos (dens n x)) above (h j l) (over j l) })
+common n x h = boxed (common_any n x (λ j l. (h j l).positive))
+  where
+    boxed : (u : ℕ → ℤ) × (d : ℤ) × CommonAny n x u d → (u : ℕ → ℤ) × (d : ℤ) × Common n x u d
+    boxed (u, d, is) = (u, d, record { above = is.above; over = is.over; within = λ j l. unit_within (x j) (u j) d is.above (h j l) (is.over j l) })
 
 -- numbers from 0 to the denominator are in the unit
 pub unit_from : (p : Ratio) (u d : ℤ) → pos 0 <ℤ d → IsOver p u d → pos 0 ≤ℤ u → u ≤ℤ d → IsInUnit p

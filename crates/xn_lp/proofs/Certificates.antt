@@ -20,20 +20,20 @@ use Rattle.xn_lp.proofs.Over.{over-whole, over-plus, over-times, over-minus, ove
 use Rattle.xn_lp.proofs.Boxes.{Common, common, unit_from, whole_common}
 
 -- ---- the values of a program at numbers over one denominator
-row_over : (lp : Lp) (i : ℕ) (x : ℕ → Ratio) (u : ℕ → ℤ) (d : ℤ) → NamesColumns lp → i < length lp.rows → ((j : ℕ) → j < length lp.cost → IsOver (x j) (u j) d) →
+pub row_over : (lp : Lp) (i : ℕ) (x : ℕ → Ratio) (u : ℕ → ℤ) (d : ℤ) → NamesColumns lp → i < length lp.rows → ((j : ℕ) → j < length lp.cost → IsOver (x j) (u j) d) →
     IsOver (row_sum (row_at lp i) x) (row_total (row_at lp i) u) d
 row_over lp i x u d named l over = over-sum_to (length (row_at lp i).terms) _ _ d
     (λ k m. over-scaled (term_at (row_at lp i).terms k).1 (x (term_at (row_at lp i).terms k).0) (u (term_at (row_at lp i).terms k).0) d (over (term_at (row_at lp i).terms k).0 (named i k l m)))
 
-cost_over : (lp : Lp) (x : ℕ → Ratio) (u : ℕ → ℤ) (d : ℤ) → ((j : ℕ) → j < length lp.cost → IsOver (x j) (u j) d) → IsOver (cost_of lp x) (cost_total lp u) d
+pub cost_over : (lp : Lp) (x : ℕ → Ratio) (u : ℕ → ℤ) (d : ℤ) → ((j : ℕ) → j < length lp.cost → IsOver (x j) (u j) d) → IsOver (cost_of lp x) (cost_total lp u) d
 cost_over lp x u d over = over-sum_to (length lp.cost) _ _ d (λ j l. over-scaled (cost_at lp j) (x j) (u j) d (over j l))
 
-combined_over : (lp : Lp) (y x : ℕ → Ratio) (q u : ℕ → ℤ) (z d : ℤ) → NamesColumns lp → ((i : ℕ) → i < length lp.rows → IsOver (y i) (q i) z) →
+pub combined_over : (lp : Lp) (y x : ℕ → Ratio) (q u : ℕ → ℤ) (z d : ℤ) → NamesColumns lp → ((i : ℕ) → i < length lp.rows → IsOver (y i) (q i) z) →
     ((j : ℕ) → j < length lp.cost → IsOver (x j) (u j) d) → IsOver (combined_sum lp y x) (combined_total lp q u) (z *ℤ d)
 combined_over lp y x q u z d named over_y over = over-sum_to (length lp.rows) _ _ (z *ℤ d)
     (λ i l. over-times (y i) (row_sum (row_at lp i) x) (q i) (row_total (row_at lp i) u) z d (over_y i l) (row_over lp i x u d named l over))
 
-reach_over : (lp : Lp) (y : ℕ → Ratio) (q : ℕ → ℤ) (z : ℤ) → ((i : ℕ) → i < length lp.rows → IsOver (y i) (q i) z) → IsOver (combined_least lp y) (combined_reach lp q) z
+pub reach_over : (lp : Lp) (y : ℕ → Ratio) (q : ℕ → ℤ) (z : ℤ) → ((i : ℕ) → i < length lp.rows → IsOver (y i) (q i) z) → IsOver (combined_least lp y) (combined_reach lp q) z
 reach_over lp y q z over_y = over-sum_to (length lp.rows) _ _ z (λ i l. over-scaled_right (row_at lp i).least (y i) (q i) z (over_y i l))
 
 surplus_terms : (lp : Lp) (q u : ℕ → ℤ) (d : ℤ) →
@@ -47,7 +47,7 @@ surplus_terms lp q u d =
     opened : (q r l d : ℤ) → q *ℤ (r -ℤ l *ℤ d) ≡ q *ℤ r +ℤ (neg_ℤ (q *ℤ l)) *ℤ d
     opened q r l d = by_gap4 (λ q r l d. q *ℤ (r -ℤ l *ℤ d) ≡ q *ℤ r +ℤ (neg_ℤ (q *ℤ l)) *ℤ d) (λ a b c e f g h i. simp gaps (gap-same _ _ _ _ (omega arith))) q r l d
 
-priced_over : (lp : Lp) (y x : ℕ → Ratio) (q u : ℕ → ℤ) (z d : ℤ) → NamesColumns lp → ((i : ℕ) → i < length lp.rows → IsOver (y i) (q i) z) →
+pub priced_over : (lp : Lp) (y x : ℕ → Ratio) (q u : ℕ → ℤ) (z d : ℤ) → NamesColumns lp → ((i : ℕ) → i < length lp.rows → IsOver (y i) (q i) z) →
     ((j : ℕ) → j < length lp.cost → IsOver (x j) (u j) d) → IsOver (priced_cost lp y x) (priced_total lp z q u d) (z *ℤ d)
 priced_over lp y x q u z d named over_y over =
     subst (λ t. IsOver (priced_cost lp y x) t (z *ℤ d)) (ap (λ t. z *ℤ cost_total lp u -ℤ t) (surplus_terms lp q u d) ∙ spread (z *ℤ cost_total lp u) (combined_total lp q u) (combined_reach lp q *ℤ d))
@@ -60,12 +60,12 @@ priced_over lp y x q u z d named over_y over =
     spread : (a b c : ℤ) → a -ℤ (b -ℤ c) ≡ a -ℤ b +ℤ c
     spread a b c = omega (arith, ints)
 
-above_times : (z d : ℤ) → pos 0 <ℤ z → pos 0 <ℤ d → pos 0 <ℤ (z *ℤ d)
+pub above_times : (z d : ℤ) → pos 0 <ℤ z → pos 0 <ℤ d → pos 0 <ℤ (z *ℤ d)
 above_times (pos m) (pos n) h k = let some : 0 < m * n = above_product m n (omega (arith, ints)) (omega (arith, ints)) in omega (arith, ints)
 above_times (pos m) (negsuc n) h k = absurd (omega (arith, ints))
 above_times (negsuc m) d h k = absurd (omega (arith, ints))
 
-from_zero : (d : ℤ) → pos 0 <ℤ d → pos 0 ≤ℤ d
+pub from_zero : (d : ℤ) → pos 0 <ℤ d → pos 0 ≤ℤ d
 from_zero d h = omega (arith, ints)
 
 cancelled : (a b z : ℤ) → pos 0 <ℤ z → a *ℤ z ≡ b *ℤ z → a ≡ b
@@ -110,6 +110,7 @@ best_from lp point duals us qs p z v named len_point len_duals over_p over_q wit
       };
       duals = λ i l. natural_from (entry duals i) (number_at qs i) z over_q.positive (over_y i l) (natural i (omega arith));
       equal = record {
+        positive = cost.positive;
         bound = λ x in_box. bounded x (common (length lp.cost) x in_box) over_y cost;
         reached = reached_at least.reached over_y cost
       }
@@ -185,6 +186,7 @@ ray_from lp ray qs z v named len_ray over_q natural least above =
                       (no_weight (cost_total lp u)) (times_one (combined_reach lp (number_at qs))) in
         (g,
           record {
+            positive = over_g.positive;
             bound = λ x box. bounded g (combined_total lp (number_at qs) u) over_g value over_y x (common (length lp.cost) x box);
             reached = (λ j. whole (u j), λ j l. unit_from (whole (u j)) (u j) (pos 1) ones.above (ones.over j l) (in_box j l).0 (in_box j l).1,
               same-over g g (combined_total lp (number_at qs) u) (combined_total lp (number_at qs) u) z over_q.positive over_g over_g refl)

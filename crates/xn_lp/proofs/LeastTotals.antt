@@ -22,7 +22,7 @@ low_sized (pos n) m k h = rw (low_pos n) (omega (arith, ints))
 low_sized (negsuc n) m k h = below_neg n m k h
 
 -- the price below 0 times the whole width is at most the price times the number
-low_le : (z u d : ℤ) → pos 0 ≤ℤ u → u ≤ℤ d → (low_part z *ℤ d) ≤ℤ (z *ℤ u)
+pub low_le : (z u d : ℤ) → pos 0 ≤ℤ u → u ≤ℤ d → (low_part z *ℤ d) ≤ℤ (z *ℤ u)
 low_le z (pos m) (pos k) low high = low_sized z m k (omega (arith, ints))
 low_le z (pos m) (negsuc k) low high = absurd (omega (arith, ints))
 low_le z (negsuc m) d low high = absurd (omega (arith, ints))
@@ -31,11 +31,11 @@ low_le z (negsuc m) d low high = absurd (omega (arith, ints))
 chosen : List ℤ → ℕ → ℤ
 chosen prices j = if is_negative (number_at prices j) then pos 1 else pos 0
 
-chosen_value : (z : ℤ) → z *ℤ (if is_negative z then pos 1 else pos 0) ≡ low_part z
+pub chosen_value : (z : ℤ) → z *ℤ (if is_negative z then pos 1 else pos 0) ≡ low_part z
 chosen_value (pos n) = rw (le-ltb n 0 (omega arith)) (omega (arith, ints))
 chosen_value (negsuc n) = times_one (negsuc n)
 
-chosen_within : (b : Bool) → (pos 0 ≤ℤ (if b then pos 1 else pos 0)) × ((if b then pos 1 else pos 0) ≤ℤ pos 1)
+pub chosen_within : (b : Bool) → (pos 0 ≤ℤ (if b then pos 1 else pos 0)) × ((if b then pos 1 else pos 0) ≤ℤ pos 1)
 chosen_within true = (omega (arith, ints), omega (arith, ints))
 chosen_within false = (omega (arith, ints), omega (arith, ints))
 

@@ -4,3 +4,5 @@ pub mod Over
 pub mod Boxes
 pub mod Denominators
 pub mod Certificates
+pub mod Duality
+pub mod LinearForms

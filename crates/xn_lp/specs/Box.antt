@@ -23,10 +23,16 @@ IsInBox n x = (j : ℕ) → j < n → IsInUnit (x j)
 
 -- v is the least value of f over the box
 pub record IsLeast (n : ℕ) (f : (ℕ → Ratio) → Ratio) (v : Ratio) : Type 0 where
+  pub positive : 0 < v.den
   pub bound : (x : ℕ → Ratio) → IsInBox n x → IsAtMost v (f x)
   pub reached : (x : ℕ → Ratio) × IsInBox n x × Same (f x) v
 
 -- v is the greatest value of f over the box
 pub record IsGreatest (n : ℕ) (f : (ℕ → Ratio) → Ratio) (v : Ratio) : Type 0 where
+  pub positive : 0 < v.den
   pub bound : (x : ℕ → Ratio) → IsInBox n x → IsAtMost (f x) v
   pub reached : (x : ℕ → Ratio) × IsInBox n x × Same (f x) v
+
+-- the number where it is below 0, else 0
+abbrev pub low_of : Ratio → Ratio
+low_of p = if is_negative p.num then p else whole (pos 0)

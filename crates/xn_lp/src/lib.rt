@@ -3,6 +3,7 @@
 
 mod checks;
 mod items;
+pub mod laws;
 mod pivot;
 mod prices;
 mod program;

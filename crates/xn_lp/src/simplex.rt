@@ -1,4 +1,6 @@
 // The dual simplex method. It answers a candidate, which is checked before it is given.
+ghost use Rattle.std.specs.Prelude.{◌<◌, IfOk, IfSome, length};
+
 use crate::pivot::{Leaving, best_entering, first_leaving, pivot};
 use crate::program::{Lp, LpRow};
 use crate::stop::Stop;
@@ -87,15 +89,19 @@ fn ray(alloc: Global, table: &Table, leaving: Leaving, rows: usize) -> Result<Ve
 }
 
 // The row that the point misses most, with how far its sum is below what it has to reach.
-fn worst_row(lp: &Lp, point: &[Frac]) -> Result<Option<(usize, Frac)>, Wide> {
-    let mut worst: Option<(usize, Frac)> = None;
-    for (i, row) in lp.rows.as_slice().iter().enumerate() {
-        let surplus = surplus(row, point)?;
-        if surplus.less(worst.map_or(zero(), |(_, least)| least)) {
-            worst = Some((i, surplus));
+fn worst_row(lp: &Lp, point: &[Frac]) -> Result<Option<(usize, Frac)>, Wide>
+    ensures { IfOk result (λ found. IfSome found (λ worst. worst.0 < length lp.now.rows)) }
+{
+    let mut worst = None;
+    let mut least = zero();
+    for i in 0..lp.rows.len() {
+        let surplus = surplus(lp.rows.at(i), point)?;
+        if surplus.less(least) {
+            worst = Some(i);
+            least = surplus;
         }
     }
-    Ok(worst)
+    Ok(worst.map(|i| (i, least)))
 }
 
 // How far the row's sum at the point passes what it has to reach.
