@@ -7,3 +7,4 @@ pub mod Ratios
 pub mod Sums
 pub mod Products
 pub mod Wholes
+pub mod RatioLaws

@@ -26,7 +26,7 @@ not_sum m n large (g, is, fits) =
 not_product : (m n : ℤ) → ¬ IsInRange (m *ℤ n) → ¬ CanMul (whole m) (whole n)
 not_product m n large (r, is) =
     let one : (unsigned_abs r.num ≡ unsigned_abs (m *ℤ n)) × (r.den ≡ 1 * 1)
-          = one_form r (times (whole m) (whole n)) is.frac.positive (omega arith) is.frac.lowest (coprime_one (unsigned_abs (m *ℤ n))) is.same in
+    = one_form r (times (whole m) (whole n)) is.frac.positive (omega arith) is.frac.lowest (coprime_one (unsigned_abs (m *ℤ n))) is.same in
     large (subst (λ k. k < 2 ^ 127) one.0 is.frac.num_in_range)
 
 -- a sum or a product of whole numbers out of range is refused of fractions

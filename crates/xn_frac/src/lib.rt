@@ -2,6 +2,9 @@
 #![tactic(auto)]
 
 mod frac;
+pub mod laws;
+#[cfg(test)]
+mod tests;
 pub mod whole;
 
 pub use frac::{Frac, Wide};

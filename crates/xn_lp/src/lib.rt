@@ -12,6 +12,9 @@ mod simplex;
 mod solve;
 mod stop;
 mod table;
+mod terms;
+#[cfg(test)]
+mod tests;
 mod whole;
 
 pub use items::Items;

@@ -1,5 +1,8 @@
 // Linear programs and their answers.
+ghost use Rattle.std.specs.Prelude.{◌↔◌, IsTrue, length};
+
 use crate::items::Items;
+use crate::terms::name_below;
 use xn_frac::Frac;
 
 /// A row of a program: the sum of its terms is to be at least `least`.
@@ -18,6 +21,22 @@ pub struct Lp {
     pub cost: Items<i64>,
     /// The rows.
     pub rows: Items<LpRow>,
+}
+
+impl Lp {
+    ghost use Rattle.xn_lp.specs.Program.{NamesColumns};
+
+    /// Whether every term names one of the columns.
+    pub fn names_columns(&self) -> bool
+        ensures { IsTrue result ↔ NamesColumns self.now }
+    {
+        for i in 0..self.rows.len() {
+            if !name_below(self.rows.at(i).terms.as_slice(), self.cost.len()) {
+                return false;
+            }
+        }
+        true
+    }
 }
 
 /// An answer to a program.
