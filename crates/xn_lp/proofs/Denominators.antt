@@ -45,7 +45,7 @@ pub numerator_is : (f : Ratio) (n num o q den : ℤ) → IsFrac f → num ≡ f.
 numerator_is f n num (pos o) q den frac is_num is_den above (k, is) is_q e = record {
   positive = frac.positive;
   value = numerator_of f o f.den k (omega (arith, ints)) frac.positive refl is
-    ∙ ap (λ t. t *ℤ pos f.den) (ap (λ t. f.num *ℤ t) (sym (is_q ∙ ap (quot_z (pos o)) is_den)) ∙ ap (λ t. t *ℤ q) (sym is_num) ∙ sym e)
+      ∙ ap (λ t. t *ℤ pos f.den) (ap (λ t. f.num *ℤ t) (sym (is_q ∙ ap (quot_z (pos o)) is_den)) ∙ ap (λ t. t *ℤ q) (sym is_num) ∙ sym e);
 }
 numerator_is f n num (negsuc o) q den frac is_num is_den above divides is_q e = absurd (omega (arith, ints))
 
@@ -53,6 +53,6 @@ numerator_is f n num (negsuc o) q den frac is_num is_den above divides is_q e = 
 pub divides_more : (xs : List Ratio) (i : ℕ) (p : Ratio) (n : ℤ) → p ≡ entry xs i → ((k : ℕ) → k < i → Divides (entry xs k).den n) → Divides p.den n →
     (k : ℕ) → k < i + 1 → Divides (entry xs k).den n
 divides_more xs i p n is before here k l = elim (cases_eq k i) [
-    inl same ↦ subst (λ j. Divides (entry xs j).den n) (sym same) (subst (λ (r : Ratio). Divides r.den n) is here)
+  | inl same ↦ subst (λ j. Divides (entry xs j).den n) (sym same) (subst (λ (r : Ratio). Divides r.den n) is here)
   | inr other ↦ before k (omega arith)
-  ]
+]

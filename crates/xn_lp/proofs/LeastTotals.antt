@@ -46,23 +46,27 @@ pub least_from_prices : (lp : Lp) (w : ℤ) (q : ℕ → ℤ) (prices : List ℤ
 unfolding chosen
 least_from_prices lp w q prices v same_len each is = record {
   bound = λ u d from within.
-    let parts : total_to (length prices) (λ j. low_part (number_at prices j) *ℤ d) ≤ℤ weighted_total prices u
-              = total-le (length prices) (λ j. low_part (number_at prices j) *ℤ d) (λ j. number_at prices j *ℤ u j)
-                  (λ j l. let in' : j < length lp.cost = omega arith in low_le (number_at prices j) (u j) d (within j in').0 (within j in').1) in
-    let scaled : total_to (length prices) (λ j. low_part (number_at prices j) *ℤ d) ≡ total_to (length prices) (λ j. low_part (number_at prices j)) *ℤ d
-               = total-scale (length prices) (λ j. low_part (number_at prices j)) d in
-    let value : v *ℤ d ≡ combined_reach lp q *ℤ d +ℤ total_to (length prices) (λ j. low_part (number_at prices j)) *ℤ d
-              = ap (λ t. t *ℤ d) is ∙ add-mul (combined_reach lp q) (total_to (length prices) (λ j. low_part (number_at prices j))) d in
-    let here : weighted_total prices u ≡ w *ℤ cost_total lp u -ℤ combined_total lp q u = each u in
-    bounded (v *ℤ d) (combined_reach lp q *ℤ d) _ _ (weighted_total prices u) (w *ℤ cost_total lp u) (combined_total lp q u) value scaled parts here;
-  reached = (chosen prices, λ j l. chosen_within (is_negative (number_at prices j)),
+      let parts : total_to (length prices) (λ j. low_part (number_at prices j) *ℤ d) ≤ℤ weighted_total prices u
+      = total-le (length prices) (λ j. low_part (number_at prices j) *ℤ d) (λ j. number_at prices j *ℤ u j)
+      (λ j l. let in' : j < length lp.cost = omega arith in low_le (number_at prices j) (u j) d (within j in').0 (within j in').1) in
+      let scaled : total_to (length prices) (λ j. low_part (number_at prices j) *ℤ d) ≡ total_to (length prices) (λ j. low_part (number_at prices j)) *ℤ d
+      = total-scale (length prices) (λ j. low_part (number_at prices j)) d in
+      let value : v *ℤ d ≡ combined_reach lp q *ℤ d +ℤ total_to (length prices) (λ j. low_part (number_at prices j)) *ℤ d
+      = ap (λ t. t *ℤ d) is ∙ add-mul (combined_reach lp q) (total_to (length prices) (λ j. low_part (number_at prices j))) d in
+      let here : weighted_total prices u ≡ w *ℤ cost_total lp u -ℤ combined_total lp q u = each u in
+      bounded (v *ℤ d) (combined_reach lp q *ℤ d) _ _ (weighted_total prices u) (w *ℤ cost_total lp u) (combined_total lp q u) value scaled parts here;
+  reached = (
+    chosen prices,
+    λ j l. chosen_within (is_negative (number_at prices j)),
     let here : weighted_total prices (chosen prices) ≡ w *ℤ cost_total lp (chosen prices) -ℤ combined_total lp q (chosen prices) = each (chosen prices) in
-    let lows : weighted_total prices (chosen prices) ≡ total_to (length prices) (λ j. low_part (number_at prices j))
-             = total-same (length prices) (λ j. number_at prices j *ℤ chosen prices j) (λ j. low_part (number_at prices j)) (λ j l. chosen_value (number_at prices j)) in
-    met v (combined_reach lp q) (combined_reach lp q *ℤ pos 1) _ (weighted_total prices (chosen prices)) (w *ℤ cost_total lp (chosen prices)) (combined_total lp q (chosen prices)) is (times_one (combined_reach lp q)) lows here)
+        let lows : weighted_total prices (chosen prices) ≡ total_to (length prices) (λ j. low_part (number_at prices j))
+        = total-same (length prices) (λ j. number_at prices j *ℤ chosen prices j) (λ j. low_part (number_at prices j)) (λ j l. chosen_value (number_at prices j)) in
+        met v (combined_reach lp q) (combined_reach lp q *ℤ pos 1) _ (weighted_total prices (chosen prices)) (w *ℤ cost_total lp (chosen prices)) (combined_total lp q (chosen prices)) is (times_one (combined_reach lp q)) lows here,
+  );
 }
   where
     bounded : (vd rd s t p wc c : ℤ) → vd ≡ rd +ℤ t → s ≡ t → s ≤ℤ p → p ≡ wc -ℤ c → vd ≤ℤ (wc -ℤ c +ℤ rd)
     bounded vd rd s t p wc c e f h g = omega (arith, ints)
+
     met : (v r r1 t p wc c : ℤ) → v ≡ r +ℤ t → r1 ≡ r → p ≡ t → p ≡ wc -ℤ c → wc -ℤ c +ℤ r1 ≡ v
     met v r r1 t p wc c e f h g = omega (arith, ints)

@@ -38,24 +38,24 @@ pub over-plus : (a b : Ratio) (u v z : ℤ) → IsOver a u z → IsOver b v z �
 over-plus a b u v z h k = record {
   positive = above_product a.den b.den h.positive k.positive;
   value = sum_out a.num b.num z a.den b.den
-    ∙ ap (λ t. t *ℤ pos b.den +ℤ (b.num *ℤ z) *ℤ pos a.den) h.value
-    ∙ ap (λ t. (u *ℤ pos a.den) *ℤ pos b.den +ℤ t *ℤ pos a.den) k.value
-    ∙ sum_in u v a.den b.den
+      ∙ ap (λ t. t *ℤ pos b.den +ℤ (b.num *ℤ z) *ℤ pos a.den) h.value
+      ∙ ap (λ t. (u *ℤ pos a.den) *ℤ pos b.den +ℤ t *ℤ pos a.den) k.value
+      ∙ sum_in u v a.den b.den;
 }
 
 pub over-times : (a b : Ratio) (u v z w : ℤ) → IsOver a u z → IsOver b v w → IsOver (times a b) (u *ℤ v) (z *ℤ w)
 over-times a b u v z w h k = record {
   positive = above_product a.den b.den h.positive k.positive;
   value = product_out a.num b.num z w
-    ∙ ap (λ t. t *ℤ (b.num *ℤ w)) h.value
-    ∙ ap (λ t. (u *ℤ pos a.den) *ℤ t) k.value
-    ∙ product_in u v a.den b.den
+      ∙ ap (λ t. t *ℤ (b.num *ℤ w)) h.value
+      ∙ ap (λ t. (u *ℤ pos a.den) *ℤ t) k.value
+      ∙ product_in u v a.den b.den;
 }
 
 pub over-minus_of : (a : Ratio) (u z : ℤ) → IsOver a u z → IsOver (minus_of a) (neg_ℤ u) z
 over-minus_of a u z h = record {
   positive = h.positive;
-  value = neg-mul a.num z ∙ ap neg_ℤ h.value ∙ sym (neg-mul u (pos a.den))
+  value = neg-mul a.num z ∙ ap neg_ℤ h.value ∙ sym (neg-mul u (pos a.den));
 }
 
 pub over-minus : (a b : Ratio) (u v z : ℤ) → IsOver a u z → IsOver b v z → IsOver (minus a b) (u -ℤ v) z
@@ -65,7 +65,7 @@ over-minus a b u v z h k = over-plus a (minus_of b) u (neg_ℤ v) z h (over-minu
 pub over-scaled : (k : ℤ) (a : Ratio) (u z : ℤ) → IsOver a u z → IsOver (times (whole k) a) (k *ℤ u) z
 over-scaled k a u z h = record {
   positive = above_product 1 a.den (omega arith) h.positive;
-  value = mul_assoc k a.num z ∙ ap (λ t. k *ℤ t) h.value ∙ sym (mul_assoc k u (pos a.den)) ∙ ap (λ d. (k *ℤ u) *ℤ pos d) (one_times a.den)
+  value = mul_assoc k a.num z ∙ ap (λ t. k *ℤ t) h.value ∙ sym (mul_assoc k u (pos a.den)) ∙ ap (λ d. (k *ℤ u) *ℤ pos d) (one_times a.den);
 }
   where
     one_times : (n : ℕ) → n ≡ 1 * n
@@ -74,7 +74,7 @@ over-scaled k a u z h = record {
 pub over-scaled_right : (k : ℤ) (a : Ratio) (u z : ℤ) → IsOver a u z → IsOver (times a (whole k)) (u *ℤ k) z
 over-scaled_right k a u z h = record {
   positive = above_product a.den 1 h.positive (omega arith);
-  value = swap_right a.num k z ∙ ap (λ t. t *ℤ k) h.value ∙ swap_right u (pos a.den) k ∙ ap (λ d. (u *ℤ k) *ℤ pos d) (times_one_right a.den)
+  value = swap_right a.num k z ∙ ap (λ t. t *ℤ k) h.value ∙ swap_right u (pos a.den) k ∙ ap (λ d. (u *ℤ k) *ℤ pos d) (times_one_right a.den);
 }
   where
     times_one_right : (n : ℕ) → n ≡ n * 1
@@ -84,13 +84,13 @@ over-scaled_right k a u z h = record {
 pub over-wider : (a : Ratio) (u z w : ℤ) → IsOver a u z → IsOver a (u *ℤ w) (z *ℤ w)
 over-wider a u z w h = record {
   positive = h.positive;
-  value = sym (mul_assoc a.num z w) ∙ ap (λ t. t *ℤ w) h.value ∙ swap_right u (pos a.den) w
+  value = sym (mul_assoc a.num z w) ∙ ap (λ t. t *ℤ w) h.value ∙ swap_right u (pos a.den) w;
 }
 
 pub over-wider_left : (a : Ratio) (u z w : ℤ) → IsOver a u z → IsOver a (w *ℤ u) (w *ℤ z)
 over-wider_left a u z w h = record {
   positive = h.positive;
-  value = swap_left a.num w z ∙ ap (λ t. w *ℤ t) h.value ∙ sym (mul_assoc w u (pos a.den))
+  value = swap_left a.num w z ∙ ap (λ t. w *ℤ t) h.value ∙ sym (mul_assoc w u (pos a.den));
 }
   where
     swap_left : (m w z : ℤ) → m *ℤ (w *ℤ z) ≡ w *ℤ (m *ℤ z)
@@ -122,9 +122,9 @@ at_most-over a b u v z above h k e = width (positive_is z above)
     width : (n : ℕ) × (z ≡ pos n) × (0 < n) → IsAtMost a b
     width (n, is, pos_n) =
         le_cancel (a.num *ℤ pos b.den) (b.num *ℤ pos a.den) n pos_n
-          (subst (λ t. ((a.num *ℤ pos b.den) *ℤ t) ≤ℤ ((b.num *ℤ pos a.den) *ℤ t)) is
-            (subst (λ t. t ≤ℤ ((b.num *ℤ pos a.den) *ℤ z)) (sym (left_side a b u z h))
-              (subst (λ t. (u *ℤ pos (a.den * b.den)) ≤ℤ t) (sym (right_side a b v z k)) (le_times u v (a.den * b.den) e))))
+        (subst (λ t. ((a.num *ℤ pos b.den) *ℤ t) ≤ℤ ((b.num *ℤ pos a.den) *ℤ t)) is
+        (subst (λ t. t ≤ℤ ((b.num *ℤ pos a.den) *ℤ z)) (sym (left_side a b u z h))
+        (subst (λ t. (u *ℤ pos (a.den * b.den)) ≤ℤ t) (sym (right_side a b v z k)) (le_times u v (a.den * b.den) e))))
 
 pub over-at_most : (a b : Ratio) (u v z : ℤ) → pos 0 <ℤ z → IsOver a u z → IsOver b v z → IsAtMost a b → u ≤ℤ v
 over-at_most a b u v z above h k e = width (positive_is z above)
@@ -132,9 +132,9 @@ over-at_most a b u v z above h k e = width (positive_is z above)
     width : (n : ℕ) × (z ≡ pos n) × (0 < n) → u ≤ℤ v
     width (n, is, pos_n) =
         le_cancel u v (a.den * b.den) (above_product a.den b.den h.positive k.positive)
-          (subst (λ t. t ≤ℤ (v *ℤ pos (a.den * b.den))) (left_side a b u z h)
-            (subst (λ t. ((a.num *ℤ pos b.den) *ℤ z) ≤ℤ t) (right_side a b v z k)
-              (subst (λ t. ((a.num *ℤ pos b.den) *ℤ t) ≤ℤ ((b.num *ℤ pos a.den) *ℤ t)) (sym is) (le_times (a.num *ℤ pos b.den) (b.num *ℤ pos a.den) n e))))
+        (subst (λ t. t ≤ℤ (v *ℤ pos (a.den * b.den))) (left_side a b u z h)
+        (subst (λ t. ((a.num *ℤ pos b.den) *ℤ z) ≤ℤ t) (right_side a b v z k)
+        (subst (λ t. ((a.num *ℤ pos b.den) *ℤ t) ≤ℤ ((b.num *ℤ pos a.den) *ℤ t)) (sym is) (le_times (a.num *ℤ pos b.den) (b.num *ℤ pos a.den) n e))))
 
 pub same-over : (a b : Ratio) (u v z : ℤ) → pos 0 <ℤ z → IsOver a u z → IsOver b v z → u ≡ v → Same a b
 same-over a b u v z above h k e = width (positive_is z above)
@@ -142,8 +142,8 @@ same-over a b u v z above h k e = width (positive_is z above)
     width : (n : ℕ) × (z ≡ pos n) × (0 < n) → Same a b
     width (n, is, pos_n) =
         cancel (a.num *ℤ pos b.den) (b.num *ℤ pos a.den) n pos_n
-          (subst (λ t. (a.num *ℤ pos b.den) *ℤ t ≡ (b.num *ℤ pos a.den) *ℤ t) is
-            (left_side a b u z h ∙ ap (λ t. t *ℤ pos (a.den * b.den)) e ∙ sym (right_side a b v z k)))
+        (subst (λ t. (a.num *ℤ pos b.den) *ℤ t ≡ (b.num *ℤ pos a.den) *ℤ t) is
+        (left_side a b u z h ∙ ap (λ t. t *ℤ pos (a.den * b.den)) e ∙ sym (right_side a b v z k)))
 
 below_by_not : (a b : Ratio) → ¬ IsAtMost b a → IsBelow a b
 below_by_not a b not_so = by_lt_z (a.num *ℤ pos b.den) (b.num *ℤ pos a.den) (λ h. h) (λ h. absurd (not_so h))

@@ -62,7 +62,7 @@ total-scale_left (suc n) f d = ap (λ t. t +ℤ d *ℤ f n) (total-scale_left n 
 pub total-change : (n i : ℕ) (f g : ℕ → ℤ) → i < n → ((j : ℕ) → j < n → j ≢ i → g j ≡ f j) → total_to n g ≡ total_to n f +ℤ (g i -ℤ f i)
 total-change zero i f g l h = absurd (omega arith)
 total-change (suc n) i f g l h = elim (cases_eq i n) [
-    inl here ↦
+  | inl here ↦
       let front : total_to n g ≡ total_to n f = total-same n g f (λ j m. h j (omega arith) (λ e. omega arith)) in
       let new : g n ≡ g i = ap g (sym here) in
       let old : f n ≡ f i = ap f (sym here) in
@@ -71,7 +71,7 @@ total-change (suc n) i f g l h = elim (cases_eq i n) [
       let front : total_to n g ≡ total_to n f +ℤ (g i -ℤ f i) = total-change n i f g (omega arith) (λ j m. h j (omega arith)) in
       let last : g n ≡ f n = h n (omega arith) (λ e. before (sym e)) in
       omega (arith, ints)
-  ]
+]
 
 write_step : (v p x : ℤ) → (v +ℤ neg_ℤ p -ℤ v) *ℤ x ≡ neg_ℤ (p *ℤ x)
 write_step v p x = by_gap3 (λ v p x. (v +ℤ neg_ℤ p -ℤ v) *ℤ x ≡ neg_ℤ (p *ℤ x)) (λ s t u v w x. simp gaps (gap-same _ _ _ _ (omega arith))) v p x
@@ -87,10 +87,10 @@ weighted-write xs i p u l =
     let same_len : length ys ≡ length xs = length-set xs i (number_at xs i +ℤ neg_ℤ p) in
     let here : number_at ys i ≡ number_at xs i +ℤ neg_ℤ p = get_or-set_same xs i (number_at xs i +ℤ neg_ℤ p) (pos 0) l in
     let change : total_to (length xs) (λ j. number_at ys j *ℤ u j) ≡ weighted_total xs u +ℤ (number_at ys i *ℤ u i -ℤ number_at xs i *ℤ u i)
-               = total-change (length xs) i (λ j. number_at xs j *ℤ u j) (λ j. number_at ys j *ℤ u j) l
-                   (λ j m ne. ap (λ t. t *ℤ u j) (get_or-set_other xs i j (number_at xs i +ℤ neg_ℤ p) (pos 0) ne)) in
+    = total-change (length xs) i (λ j. number_at xs j *ℤ u j) (λ j. number_at ys j *ℤ u j) l
+    (λ j m ne. ap (λ t. t *ℤ u j) (get_or-set_other xs i j (number_at xs i +ℤ neg_ℤ p) (pos 0) ne)) in
     ap (λ n. total_to n (λ j. number_at ys j *ℤ u j)) same_len ∙ change
-      ∙ ap (λ t. weighted_total xs u +ℤ t) (diff_step (number_at ys i) (number_at xs i) (u i) ∙ ap (λ t. (t -ℤ number_at xs i) *ℤ u i) here ∙ write_step (number_at xs i) p (u i))
+    ∙ ap (λ t. weighted_total xs u +ℤ t) (diff_step (number_at ys i) (number_at xs i) (u i) ∙ ap (λ t. (t -ℤ number_at xs i) *ℤ u i) here ∙ write_step (number_at xs i) p (u i))
 
 -- a term's step: its column's number falls by m times the coefficient
 pub take_step : (prices before : List ℤ) (terms : List (ℕ × ℤ)) (m : ℤ) (i : ℕ) (v : ℤ) → (term_at terms i).0 < length prices →
@@ -100,7 +100,7 @@ pub take_step : (prices before : List ℤ) (terms : List (ℕ × ℤ)) (m : ℤ)
 take_step prices before terms m i v l e kept u =
     let f : ℕ → ℤ = λ k. (term_at terms k).1 *ℤ u (term_at terms k).0 in
     let written : weighted_total (set prices (term_at terms i).0 v) u ≡ weighted_total prices u -ℤ (m *ℤ (term_at terms i).1) *ℤ u (term_at terms i).0
-                = rw e (weighted-write prices (term_at terms i).0 (m *ℤ (term_at terms i).1) u l) in
+    = rw e (weighted-write prices (term_at terms i).0 (m *ℤ (term_at terms i).1) u l) in
     let here : weighted_total prices u ≡ weighted_total before u -ℤ m *ℤ total_to i f = kept u in
     let one : (m *ℤ (term_at terms i).1) *ℤ u (term_at terms i).0 ≡ m *ℤ f i = mul_assoc m (term_at terms i).1 (u (term_at terms i).0) in
     let more : m *ℤ total_to (i + 1) f ≡ m *ℤ total_to i f +ℤ m *ℤ f i = ap (λ t. m *ℤ t) (total-more f i) ∙ mul-add m (total_to i f) (f i) in

@@ -74,7 +74,10 @@ fn lies_in_box(point: &Scaled) -> bool
     ensures { IsTrue result → AreWithin (length point.now.numbers.items) (number_at point.now.numbers.items) point.now.over }
 {
     let over = point.over.value();
-    point.numbers.iter().all(|n| 0 <= n.value() && n.value() <= over)
+    point
+        .numbers
+        .iter()
+        .all(|n| 0 <= n.value() && n.value() <= over)
 }
 
 // Whether every number is at least 0.

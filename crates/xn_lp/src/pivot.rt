@@ -56,7 +56,11 @@ struct Choice {
 }
 
 /// The variable that enters for the basic one: of those that bring it back to its bound, the one whose price allows the least.
-pub fn best_entering(table: &Table, basic: &Basic, is_above: bool) -> Result<Option<Entering>, Wide> {
+pub fn best_entering(
+    table: &Table,
+    basic: &Basic,
+    is_above: bool,
+) -> Result<Option<Entering>, Wide> {
     let mut best: Option<Choice> = None;
     for (place, nonbasic) in table.nonbasics.iter().enumerate() {
         let slope = entry(basic.line.as_slice(), place);
@@ -93,14 +97,19 @@ fn size(fraction: Frac) -> Result<Frac, Wide> {
 
 // Whether the ratio is less, or is the same and the variable comes before.
 fn is_better(choice: Choice, other: Choice) -> bool {
-    choice.ratio.less(other.ratio) || (!other.ratio.less(choice.ratio) && choice.variable.rank() < other.variable.rank())
+    choice.ratio.less(other.ratio)
+        || (!other.ratio.less(choice.ratio) && choice.variable.rank() < other.variable.rank())
 }
 
 /// Puts the leaving variable at the bound that it is beyond, and writes the entering one in those at a bound.
 pub fn pivot(table: &mut Table, leaving: Leaving, entering: Entering) -> Result<(), Stop>
     requires { leaving.place < vec_len table.old.basics }
 {
-    let Basic { variable, value, mut line } = table.basics.swap_remove(leaving.place);
+    let Basic {
+        variable,
+        value,
+        mut line,
+    } = table.basics.swap_remove(leaving.place);
     let bound = if leaving.is_above { one() } else { zero() };
     let step = bound.sub(value)?.div(entering.slope)?;
     solve_for(line.as_mut_slice(), entering)?;

@@ -10,7 +10,12 @@ use std::alloc::Global;
 use xn_frac::Wide;
 
 /// The least value over the box of weight times the cost, less the combined rows beyond what they have to reach.
-pub fn least_total(alloc: Global, lp: &Lp, weight: Whole, multipliers: &[Whole]) -> Result<Whole, Stop>
+pub fn least_total(
+    alloc: Global,
+    lp: &Lp,
+    weight: Whole,
+    multipliers: &[Whole],
+) -> Result<Whole, Stop>
     requires columns { NamesColumns lp.now }
     requires each { length multipliers.now ≡ length lp.now.rows }
     ensures { IfOk result (IsLeastTotal lp.now weight (number_at multipliers.now)) }
@@ -21,7 +26,12 @@ pub fn least_total(alloc: Global, lp: &Lp, weight: Whole, multipliers: &[Whole])
 }
 
 // The price of each column: weight times its cost, less the rows' coefficients, each times its multiplier.
-fn prices_of(alloc: Global, lp: &Lp, weight: Whole, multipliers: &[Whole]) -> Result<Vec<Whole>, Stop>
+fn prices_of(
+    alloc: Global,
+    lp: &Lp,
+    weight: Whole,
+    multipliers: &[Whole],
+) -> Result<Vec<Whole>, Stop>
     requires columns { NamesColumns lp.now }
     requires each { length multipliers.now ≡ length lp.now.rows }
     ensures len { IfOk result (λ v. length v.items ≡ length lp.now.cost) }

@@ -43,9 +43,14 @@ impl Lp {
 #[derive(Debug, Drop)]
 pub enum LpAnswer {
     /// A point of the program, and multipliers of the rows that prove that no point costs less.
-    Best { point: Items<Frac>, duals: Items<Frac> },
+    Best {
+        point: Items<Frac>,
+        duals: Items<Frac>,
+    },
     /// The program has no point: multipliers of the rows whose combined row no point of the box meets.
-    Nothing { ray: Items<Frac> },
+    Nothing {
+        ray: Items<Frac>,
+    },
 }
 
 /// Why a program has no answer.

@@ -58,7 +58,8 @@ pub fn find_candidate(alloc: Global, lp: &Lp, cap: u64) -> Result<Option<Candida
 // Pivots until no variable is beyond a bound.
 fn settle(table: &mut Table, left: &mut u64) -> Result<End, Stop> {
     while let Some(leaving) = first_leaving(table) {
-        let Some(entering) = best_entering(table, &table.basics[leaving.place], leaving.is_above)? else {
+        let Some(entering) = best_entering(table, &table.basics[leaving.place], leaving.is_above)?
+        else {
             return Ok(End::Stuck(leaving));
         };
         if *left == 0 {
@@ -81,7 +82,11 @@ fn ray(alloc: Global, table: &Table, leaving: Leaving, rows: usize) -> Result<Ve
     }
     for (nonbasic, slope) in table.nonbasics.iter().zip(&basic.line) {
         if let Variable::Surplus(i) = nonbasic.variable {
-            let multiplier = if leaving.is_above { *slope } else { zero().sub(*slope)? };
+            let multiplier = if leaving.is_above {
+                *slope
+            } else {
+                zero().sub(*slope)?
+            };
             put(ray.as_mut_slice(), i, multiplier);
         }
     }

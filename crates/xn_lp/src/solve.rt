@@ -54,7 +54,12 @@ fn checked_answer(alloc: Global, lp: &Lp, cap: u64) -> Result<Option<LpAnswer>, 
 }
 
 // The point with its multipliers, if they are a best answer.
-fn checked_best(alloc: Global, lp: &Lp, point: Vec<Frac>, duals: Vec<Frac>) -> Result<Option<LpAnswer>, Stop>
+fn checked_best(
+    alloc: Global,
+    lp: &Lp,
+    point: Vec<Frac>,
+    duals: Vec<Frac>,
+) -> Result<Option<LpAnswer>, Stop>
     requires { NamesColumns lp.now }
     ensures { IfOk result (λ found. IfSome found (AnswerHolds lp.now)) }
 {
@@ -75,5 +80,7 @@ fn checked_ray(alloc: Global, lp: &Lp, ray: Vec<Frac>) -> Result<Option<LpAnswer
     if !is_ray(alloc, lp, ray.as_slice())? {
         return Ok(None);
     }
-    Ok(Some(LpAnswer::Nothing { ray: Items::new(ray) }))
+    Ok(Some(LpAnswer::Nothing {
+        ray: Items::new(ray),
+    }))
 }

@@ -134,7 +134,13 @@ impl Table {
     }
 
     /// Adds the surplus of row i, written in the variables at a bound.
-    pub fn add_row(&mut self, alloc: Global, i: usize, weights: &[Frac], value: Frac) -> Result<(), Stop> {
+    pub fn add_row(
+        &mut self,
+        alloc: Global,
+        i: usize,
+        weights: &[Frac],
+        value: Frac,
+    ) -> Result<(), Stop> {
         let mut line = Vec::new(alloc);
         for nonbasic in &self.nonbasics {
             line.push(nonbasic.variable.weight(weights))?;

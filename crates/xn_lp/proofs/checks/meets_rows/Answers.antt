@@ -27,8 +27,8 @@ loop-i-preserved c =
     let test = rw (to_z-of_z w128 c.value.result fits, to_z-of_z w128 c.value-in-loop-i.result fits_reach) at c.if-value.false in
     let least : c.new.result ≡ c.at-row.result.now.least = search rules in
     let reach : c.in_ok-reach.reach ≡ (row_at c.args.lp.now c.loop-i.i).least *ℤ c.args.point.now.over
-              = c.in_ok-reach.ensures ∙ ap (λ t. t *ℤ c.args.point.now.over) (least ∙ ap (λ (r : LpRow). r.least) row) in
+    = c.in_ok-reach.ensures ∙ ap (λ t. t *ℤ c.args.point.now.over) (least ∙ ap (λ (r : LpRow). r.least) row) in
     let sum : c.in_ok-sum.sum ≡ row_total (row_at c.args.lp.now c.loop-i.i) (number_at c.args.point.now.numbers.items)
-            = rw (terms, c.as_slice-in-loop-i.ensures.value) at c.in_ok-sum.ensures in
+    = rw (terms, c.as_slice-in-loop-i.ensures.value) at c.in_ok-sum.ensures in
     let here : c.in_ok-reach.reach ≤ℤ c.in_ok-sum.sum = omega (arith, ints) in
     below_more _ _ c.loop-i.invariant (rw (reach, sum) at here)

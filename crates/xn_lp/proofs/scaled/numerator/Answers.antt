@@ -18,5 +18,5 @@ returns c =
     let den : pos 0 <ℤ c.den.result = let some : 0 < c.args.fraction.den = c.den.ensures.lowest.positive in rw c.den.ensures.den (omega (arith, ints)) in
     let quotient = quot_is w128 c.value.result c.den.result fits_value fits_den (quot_fits w128 c.value.result c.den.result fits_value den) in
     IfOk-weaker c.times.result _ (λ n. IsOver c.args.fraction n c.args.over)
-      (λ n e. numerator_is c.args.fraction n c.from_num.result c.args.over c.from_num-2.result c.den.result c.num.ensures.lowest
-        (num ∙ c.num.ensures.num) c.den.ensures.den c.requires.above c.requires.divided (c.from_num-2.ensures ∙ quotient ∙ ap (λ z. quot_z z c.den.result) c.value.ensures.value) e) c.times.ensures
+    (λ n e. numerator_is c.args.fraction n c.from_num.result c.args.over c.from_num-2.result c.den.result c.num.ensures.lowest
+    (num ∙ c.num.ensures.num) c.den.ensures.den c.requires.above c.requires.divided (c.from_num-2.ensures ∙ quotient ∙ ap (λ z. quot_z z c.den.result) c.value.ensures.value) e) c.times.ensures

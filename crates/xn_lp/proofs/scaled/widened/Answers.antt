@@ -24,14 +24,14 @@ factor_is c =
 pub returns-clause-above : goal.returns-clause-above
 returns-clause-above c =
     IfOk-weaker c.times.result _ (λ n. pos 0 <ℤ n)
-      (λ n e. widened_above c.args.fraction c.new.result c.args.over n c.requires c.den.ensures.lowest (quotient_is c) (e ∙ ap (λ t. c.args.over *ℤ t) (factor_is c))) c.times.ensures
+    (λ n e. widened_above c.args.fraction c.new.result c.args.over n c.requires c.den.ensures.lowest (quotient_is c) (e ∙ ap (λ t. c.args.over *ℤ t) (factor_is c))) c.times.ensures
 
 pub returns-clause-kept : goal.returns-clause-kept
 returns-clause-kept c =
     IfOk-weaker c.times.result _ (λ n. (d : ℕ) → Divides d c.args.over → Divides d n)
-      (λ n e. widened_keeps c.args.over c.from_num.result n e) c.times.ensures
+    (λ n e. widened_keeps c.args.over c.from_num.result n e) c.times.ensures
 
 pub returns-clause-divided : goal.returns-clause-divided
 returns-clause-divided c =
     IfOk-weaker c.times.result _ (λ n. Divides c.args.fraction.den n)
-      (λ n e. widened_divides c.args.fraction c.new.result c.args.over n c.requires (quotient_is c) (e ∙ ap (λ t. c.args.over *ℤ t) (factor_is c))) c.times.ensures
+    (λ n e. widened_divides c.args.fraction c.new.result c.args.over n c.requires (quotient_is c) (e ∙ ap (λ t. c.args.over *ℤ t) (factor_is c))) c.times.ensures
