@@ -1,6 +1,6 @@
 -- Points of the box as whole numbers over one denominator.
-use Rattle.std.proofs.Common.{◌≡◌, ◌≢◌, ℕ, zero, suc, ◌+◌, ◌*◌, ◌/◌, ◌<◌, ◌≤◌, arith, ap, sym, refl, ◌∙◌, subst, inl, inr}
-use Rattle.std.specs.Prelude.{ℤ, pos, negsuc, ◌+ℤ◌, ◌-ℤ◌, ◌*ℤ◌, ◌≤ℤ◌, ◌<ℤ◌}
+use Rattle.std.proofs.Common.{◌≡◌, ℕ, zero, suc, ◌*◌, ◌/◌, ◌<◌, arith, ap, sym, refl, ◌∙◌, subst, inl, inr}
+use Rattle.std.specs.Prelude.{ℤ, pos, ◌*ℤ◌, ◌≤ℤ◌, ◌<ℤ◌}
 use Rattle.std.specs.Int.{◌∣◌}
 use Rattle.std.proofs.Math.IntN.{zero-*ℤ}
 use Rattle.std.proofs.Math.Nat.{div-mul_cancel, dvd-mul_left, dvd_trans, dvd-mul_right}
@@ -8,7 +8,6 @@ use Rattle.std.proofs.lemmas.Int.{ints}
 use Rattle.std.proofs.lemmas.Bool.{cases_eq}
 use Rattle.xn_frac.specs.Ratio.{Ratio, whole}
 use Rattle.xn_frac.proofs.Ratios.{above_product}
-use Rattle.xn_frac.proofs.Wholes.{times_one}
 use Rattle.xn_frac.proofs.Gaps.{gaps, gap-same, by_gap}
 use Rattle.xn_lp.specs.Box.{IsInUnit, IsInBox}
 use Rattle.xn_lp.specs.Whole.{IsOver, AreWithin}

@@ -1,22 +1,21 @@
 -- What is checked in whole numbers is what an answer says.
-use Rattle.std.proofs.Common.{◌≡◌, ◌≢◌, ◌&&◌, eqb, true, ℕ, zero, suc, ◌+◌, ◌*◌, ◌<◌, ◌≤◌, List, length, arith, ap, sym, refl, ◌∙◌, subst, inl, inr}
+use Rattle.std.proofs.Common.{◌≡◌, ◌&&◌, eqb, true, ℕ, ◌*◌, ◌<◌, List, length, arith, ap, sym, refl, ◌∙◌, subst}
 use Rattle.std.specs.Prelude.{ℤ, pos, negsuc, ◌+ℤ◌, ◌-ℤ◌, ◌*ℤ◌, neg_ℤ, ◌≤ℤ◌, ◌<ℤ◌}
-use Rattle.std.proofs.Math.IntN.{zero-*ℤ, *ℤ_comm}
+use Rattle.std.proofs.Math.IntN.{zero-*ℤ}
 use Rattle.std.proofs.Common.{int_eq}
 use Rattle.std.proofs.lemmas.Bool.Decides.{Decides-int_eq}
 use Rattle.std.proofs.lemmas.Int.{ints}
 use Rattle.std.proofs.lemmas.Bool.{and_parts, eqb-true}
-use Rattle.xn_frac.specs.Ratio.{Ratio, whole, plus, minus, times, Same, IsAtMost, IsBelow, ratio_of, IsFracOf}
+use Rattle.xn_frac.specs.Ratio.{Ratio, whole, minus, Same, IsAtMost, IsBelow, ratio_of, IsFracOf}
 use Rattle.xn_frac.proofs.Gaps.{gaps, gap-same, by_gap3, by_gap4}
 use Rattle.xn_frac.proofs.Wholes.{times_one}
 use Rattle.xn_frac.proofs.Ratios.{cancel, swapped, above_product}
-use Rattle.xn_lp.specs.Box.{sum_to, entry, IsInBox, IsLeast, IsGreatest}
-use Rattle.xn_lp.specs.Program.{term_at, row_at, cost_at, NamesColumns, row_sum, cost_of, IsPoint, IsNatural, AreMultipliers, surplus_of, priced_cost, combined_sum, combined_least, IsBest, IsRay}
+use Rattle.xn_lp.specs.Box.{entry, IsInBox, IsGreatest}
+use Rattle.xn_lp.specs.Program.{term_at, row_at, cost_at, NamesColumns, row_sum, cost_of, IsNatural, surplus_of, priced_cost, combined_sum, combined_least, IsBest, IsRay}
 use Rattle.xn_lp.specs.Whole.{total_to, number_at, IsOver, AreOver, AreWithin, AreNatural, MeetsRows, row_total, cost_total, combined_total, combined_reach, priced_total, IsLeastTotal, IsBestTotal}
-use Rattle.xn_lp.specs.declared.program.LpRow.{LpRow}
 use Rattle.xn_lp.specs.declared.program.Lp.{Lp}
-use Rattle.xn_lp.proofs.Totals.{total-same, total-add, total-neg, total-scale, neg-times, add-mul, mul-add, mul_assoc}
-use Rattle.xn_lp.proofs.Over.{over-whole, over-plus, over-times, over-minus, over-scaled, over-scaled_right, over-wider, over-wider_left, over-sum_to, at_most-over, same-over, below-over, positive_is}
+use Rattle.xn_lp.proofs.Totals.{total-same, total-add, total-neg, total-scale, neg-times, add-mul}
+use Rattle.xn_lp.proofs.Over.{over-whole, over-times, over-minus, over-scaled, over-scaled_right, over-wider, over-wider_left, over-sum_to, at_most-over, same-over, below-over, positive_is}
 use Rattle.xn_lp.proofs.Boxes.{Common, common, unit_from, whole_common}
 
 -- ---- the values of a program at numbers over one denominator

@@ -1,6 +1,6 @@
 -- Common denominators, step by step.
-use Rattle.std.proofs.Common.{◌≡◌, ℕ, zero, suc, ◌+◌, ◌*◌, ◌/◌, ◌<◌, ◌≤◌, List, length, arith, ap, sym, refl, ◌∙◌, subst, inl, inr}
-use Rattle.std.specs.Prelude.{ℤ, pos, negsuc, ◌+ℤ◌, ◌*ℤ◌, ◌<ℤ◌, unsigned_abs}
+use Rattle.std.proofs.Common.{◌≡◌, ℕ, ◌+◌, ◌*◌, ◌/◌, ◌<◌, List, arith, ap, sym, refl, ◌∙◌, subst, inl, inr}
+use Rattle.std.specs.Prelude.{ℤ, pos, negsuc, ◌*ℤ◌, ◌<ℤ◌}
 use Rattle.std.proofs.Math.IntN.{*ℤ_comm}
 use Rattle.std.proofs.Math.Nat.{mul-div_cancel}
 use Rattle.std.proofs.lemmas.Int.{ints}
@@ -11,7 +11,6 @@ use Rattle.xn_frac.proofs.Ratios.{above_product}
 use Rattle.xn_lp.specs.Box.{entry}
 use Rattle.xn_lp.specs.Whole.{IsOver, Divides}
 use Rattle.xn_lp.proofs.Totals.{mul_assoc}
-use Rattle.xn_lp.proofs.Over.{positive_is}
 
 -- the widened number is the fraction's denominator times another number above 0
 widened_value : (f r : Ratio) (o n : ℤ) → pos 0 <ℤ o → IsFracOf (ratio_of (pos f.den) o) r → n ≡ o *ℤ r.num → n ≡ pos r.den *ℤ pos f.den

@@ -1,20 +1,20 @@
 -- Points against multipliers.
-use Rattle.std.proofs.Common.{◌≡◌, ℕ, zero, suc, ◌+◌, ◌*◌, ◌<◌, ◌≤◌, ◌↔◌, length, arith, ap, sym, refl, ◌∙◌, subst}
-use Rattle.std.specs.Prelude.{ℤ, pos, negsuc, ◌+ℤ◌, ◌-ℤ◌, ◌*ℤ◌, ◌≤ℤ◌, ◌<ℤ◌}
+use Rattle.std.proofs.Common.{ℕ, ◌<◌, ◌↔◌, length, arith, sym, subst}
+use Rattle.std.specs.Prelude.{ℤ, pos, negsuc, ◌*ℤ◌, ◌≤ℤ◌}
 use Rattle.std.proofs.Math.IntN.{*ℤ_comm, zero-*ℤ}
 use Rattle.std.proofs.lemmas.Int.{ints}
 use Rattle.xn_frac.specs.Ratio.{Ratio, whole, IsAtMost, IsBelow}
 use Rattle.xn_frac.proofs.Ratios.{le_cancel, le_times, swapped}
 use Rattle.xn_lp.specs.Box.{entry, IsLeast, IsGreatest}
-use Rattle.xn_lp.specs.Program.{row_at, NamesColumns, cost_of, row_sum, IsPoint, AreMultipliers, priced_cost, combined_sum, combined_least, IsRay, IsBest, AnswerHolds, IsNothing, HasNoPoint}
-use Rattle.xn_lp.specs.Whole.{total_to, IsOver, row_total, cost_total, combined_total, combined_reach, priced_total}
+use Rattle.xn_lp.specs.Program.{row_at, NamesColumns, cost_of, row_sum, IsPoint, AreMultipliers, priced_cost, combined_sum, combined_least, IsRay, AnswerHolds, IsNothing, HasNoPoint}
+use Rattle.xn_lp.specs.Whole.{IsOver, row_total, cost_total, combined_total, combined_reach, priced_total}
 use Rattle.xn_lp.specs.declared.program.Lp.{Lp}
 use Rattle.xn_lp.specs.declared.program.LpAnswer.{LpAnswer}
 use Rattle.xn_lp.specs.declared.program.LpAnswer.TheVariants.{Best, Nothing}
 use Rattle.xn_lp.proofs.Totals.{total-le, total-scale, mul_assoc}
 use Rattle.xn_lp.proofs.Over.{over-whole, over-wider, over-wider_left, at_most-over, over-at_most}
 use Rattle.xn_lp.proofs.Boxes.{Common, common, CommonAny, common_any}
-use Rattle.xn_lp.proofs.Certificates.{row_over, cost_over, combined_over, reach_over, priced_over, above_times, from_zero}
+use Rattle.xn_lp.proofs.Certificates.{row_over, cost_over, combined_over, reach_over, priced_over, above_times}
 
 IsAtMost-trans : (p q r : Ratio) → 0 < q.den → IsAtMost p q → IsAtMost q r → IsAtMost p r
 IsAtMost-trans p q r above h k =

@@ -1,13 +1,12 @@
 -- The least of a sum of prices over the box.
-use Rattle.std.proofs.Common.{◌≡◌, ℕ, zero, suc, ◌+◌, ◌*◌, ◌<◌, ◌≤◌, List, length, arith, ap, sym, refl, ◌∙◌, subst, Bool, true, false}
-use Rattle.std.specs.Prelude.{ℤ, pos, negsuc, ◌+ℤ◌, ◌-ℤ◌, ◌*ℤ◌, neg_ℤ, ◌≤ℤ◌, ◌<ℤ◌, if◌then◌else◌}
+use Rattle.std.proofs.Common.{◌≡◌, ℕ, suc, ◌*◌, ◌<◌, ◌≤◌, List, length, arith, ap, refl, ◌∙◌, Bool, true, false}
+use Rattle.std.specs.Prelude.{ℤ, pos, negsuc, ◌+ℤ◌, ◌-ℤ◌, ◌*ℤ◌, ◌≤ℤ◌, if◌then◌else◌}
 use Rattle.std.specs.Int.{is_negative}
 use Rattle.std.proofs.lemmas.Int.{ints}
 use Rattle.std.proofs.lemmas.Bool.{le-ltb}
 use Rattle.std.proofs.Math.Nat.{mul-le-mul_left}
-use Rattle.xn_frac.proofs.Gaps.{gaps, gap-same, by_gap3}
 use Rattle.xn_frac.proofs.Wholes.{times_one}
-use Rattle.xn_lp.specs.Whole.{total_to, number_at, weighted_total, low_part, AreWithin, IsLeastTotal, cost_total, combined_total, combined_reach, priced_total}
+use Rattle.xn_lp.specs.Whole.{total_to, number_at, weighted_total, low_part, IsLeastTotal, cost_total, combined_total, combined_reach}
 use Rattle.xn_lp.specs.declared.program.Lp.{Lp}
 use Rattle.xn_lp.proofs.Totals.{total-le, total-same, total-scale, add-mul}
 

@@ -1,18 +1,17 @@
 -- The least of a linear form over the box.
-use Rattle.std.proofs.Common.{◌≡◌, ℕ, zero, suc, ◌+◌, ◌*◌, ◌<◌, ◌≤◌, Bool, true, false, arith, ap, sym, refl, ◌∙◌, subst}
-use Rattle.std.specs.Prelude.{ℤ, pos, negsuc, ◌+ℤ◌, ◌-ℤ◌, ◌*ℤ◌, ◌≤ℤ◌, ◌<ℤ◌, if◌then◌else◌}
+use Rattle.std.proofs.Common.{◌≡◌, ℕ, ◌<◌, arith, ap, sym, refl, ◌∙◌}
+use Rattle.std.specs.Prelude.{ℤ, pos, negsuc, ◌+ℤ◌, ◌*ℤ◌, ◌≤ℤ◌, ◌<ℤ◌, if◌then◌else◌}
 use Rattle.std.specs.Int.{is_negative}
 use Rattle.std.proofs.lemmas.Int.{ints}
 use Rattle.std.proofs.lemmas.Bool.{le-ltb}
-use Rattle.xn_frac.specs.Ratio.{Ratio, whole, plus, times, Same, IsAtMost}
-use Rattle.xn_frac.proofs.Ratios.{above_product}
+use Rattle.xn_frac.specs.Ratio.{Ratio, whole, plus, times, IsAtMost}
 use Rattle.xn_frac.proofs.Wholes.{times_one}
-use Rattle.xn_lp.specs.Box.{sum_to, IsInBox, IsLeast, low_of}
-use Rattle.xn_lp.specs.Whole.{total_to, IsOver, AreWithin, low_part}
+use Rattle.xn_lp.specs.Box.{sum_to, IsLeast, low_of}
+use Rattle.xn_lp.specs.Whole.{total_to, IsOver, low_part}
 use Rattle.xn_lp.proofs.Totals.{total-le, total-same, total-scale, add-mul}
 use Rattle.xn_lp.proofs.LeastTotals.{low_le, chosen_value, chosen_within}
-use Rattle.xn_lp.proofs.Over.{over-whole, over-plus, over-times, over-wider, over-wider_left, over-sum_to, at_most-over, same-over, positive_is}
-use Rattle.xn_lp.proofs.Boxes.{Common, common, CommonAny, common_any, unit_from, whole_common}
+use Rattle.xn_lp.proofs.Over.{over-plus, over-times, over-wider, over-wider_left, over-sum_to, at_most-over, same-over}
+use Rattle.xn_lp.proofs.Boxes.{Common, common, CommonAny, common_any, unit_from}
 use Rattle.xn_lp.proofs.Certificates.{above_times}
 
 low_sign : (m : ℤ) (d : ℕ) (u : ℤ) (n : ℕ) → 0 < d → 0 < n → m *ℤ pos n ≡ u *ℤ pos d → IsOver (low_of (record { num = m; den = d })) (low_part u) (pos n)

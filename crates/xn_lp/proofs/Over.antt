@@ -1,10 +1,10 @@
 -- Ratios as whole numbers over one denominator.
-use Rattle.std.proofs.Common.{◌≡◌, ◌≢◌, ℕ, zero, suc, ◌+◌, ◌*◌, ◌<◌, ◌≤◌, arith, ap, sym, refl, ◌∙◌, subst, inl, inr}
+use Rattle.std.proofs.Common.{◌≡◌, ℕ, zero, suc, ◌*◌, ◌<◌, arith, ap, sym, refl, ◌∙◌, subst}
 use Rattle.std.specs.Prelude.{ℤ, pos, negsuc, ◌+ℤ◌, ◌-ℤ◌, ◌*ℤ◌, neg_ℤ, ◌≤ℤ◌, ◌<ℤ◌}
-use Rattle.std.proofs.Math.IntN.{zero-*ℤ, *ℤ-zero}
+use Rattle.std.proofs.Math.IntN.{zero-*ℤ}
 use Rattle.std.proofs.lemmas.Int.{ints, by_lt_z}
 use Rattle.xn_frac.specs.Ratio.{Ratio, whole, plus, minus, minus_of, times, Same, IsAtMost, IsBelow}
-use Rattle.xn_frac.proofs.Gaps.{gaps, gap-same, by_gap, by_gap2, by_gap3, by_gap4}
+use Rattle.xn_frac.proofs.Gaps.{gaps, gap-same, by_gap2, by_gap3, by_gap4}
 use Rattle.xn_frac.proofs.Ratios.{cancel, le_cancel, le_times, above_product}
 use Rattle.xn_frac.proofs.Wholes.{times_one}
 use Rattle.xn_lp.specs.Box.{sum_to}

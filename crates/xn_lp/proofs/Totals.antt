@@ -1,11 +1,11 @@
 -- Sums of whole numbers.
-use Rattle.std.proofs.Common.{◌≡◌, ◌≢◌, ℕ, zero, suc, ◌+◌, ◌*◌, ◌<◌, ◌≤◌, List, length, arith, ap, sym, refl, ◌∙◌, subst, inl, inr, add-one, get_or, set, get_or-set_other, get_or-set_same}
-use Rattle.std.specs.Prelude.{ℤ, pos, negsuc, ◌+ℤ◌, ◌-ℤ◌, ◌*ℤ◌, neg_ℤ, ◌≤ℤ◌, ◌<ℤ◌}
+use Rattle.std.proofs.Common.{◌≡◌, ◌≢◌, ℕ, zero, suc, ◌+◌, ◌<◌, List, length, arith, ap, sym, refl, ◌∙◌, inl, inr, add-one, set, get_or-set_other, get_or-set_same}
+use Rattle.std.specs.Prelude.{ℤ, pos, ◌+ℤ◌, ◌-ℤ◌, ◌*ℤ◌, neg_ℤ, ◌≤ℤ◌}
 use Rattle.std.proofs.Math.IntN.{zero-*ℤ, *ℤ-zero}
 use Rattle.std.proofs.lemmas.Int.{ints}
 use Rattle.std.proofs.lemmas.Bool.{cases_eq}
 use Rattle.std.proofs.lemmas.List.{length-set}
-use Rattle.xn_frac.proofs.Gaps.{gaps, gap-same, by_gap3, by_gap2, by_gap4}
+use Rattle.xn_frac.proofs.Gaps.{gaps, gap-same, by_gap3, by_gap2}
 use Rattle.xn_lp.specs.Program.{term_at}
 use Rattle.xn_lp.specs.Whole.{total_to, number_at, weighted_total, terms_total}
 

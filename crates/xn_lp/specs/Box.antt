@@ -1,6 +1,6 @@
-use Rattle.std.specs.Prelude.{◌≡◌, ℕ, zero, suc, ◌+◌, ◌<◌, ℤ, pos, List, slice_index_or, if◌then◌else◌}
+use Rattle.std.specs.Prelude.{ℕ, zero, suc, ◌<◌, pos, List, slice_index_or, if◌then◌else◌}
 use Rattle.std.specs.Int.{is_negative}
-use Rattle.xn_frac.specs.Ratio.{Ratio, whole, plus, times, Same, IsAtMost}
+use Rattle.xn_frac.specs.Ratio.{Ratio, whole, plus, Same, IsAtMost}
 
 -- f 0 + .. + f (n - 1)
 abbrev pub sum_to : ℕ → (ℕ → Ratio) → Ratio

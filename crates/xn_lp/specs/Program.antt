@@ -1,5 +1,5 @@
-use Rattle.std.specs.Prelude.{◌≡◌, ℕ, ◌+◌, ◌*◌, ◌<◌, ◌⊎◌, ◌↔◌, ℤ, pos, List, [], length, slice_index_or, ⊤}
-use Rattle.xn_frac.specs.Ratio.{Ratio, whole, plus, minus, times, IsAtMost, IsBelow, IsRefused}
+use Rattle.std.specs.Prelude.{◌≡◌, ℕ, ◌+◌, ◌*◌, ◌<◌, ◌⊎◌, ℤ, pos, List, [], length, slice_index_or, ⊤}
+use Rattle.xn_frac.specs.Ratio.{Ratio, whole, minus, times, IsAtMost, IsBelow, IsRefused}
 use Rattle.xn_lp.specs.Box.{sum_to, entry, IsInBox, IsLeast, IsGreatest}
 use Rattle.xn_lp.specs.declared.program.LpRow.{LpRow}
 use Rattle.xn_lp.specs.declared.program.Lp.{Lp}

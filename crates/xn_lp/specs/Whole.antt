@@ -1,8 +1,8 @@
-use Rattle.std.specs.Prelude.{◌≡◌, ℕ, zero, suc, ◌+◌, ◌<◌, ℤ, pos, ◌+ℤ◌, ◌-ℤ◌, ◌*ℤ◌, ◌≤ℤ◌, ◌<ℤ◌, List, length, slice_index_or, if◌then◌else◌}
+use Rattle.std.specs.Prelude.{◌≡◌, ℕ, zero, suc, ◌<◌, ℤ, pos, ◌+ℤ◌, ◌-ℤ◌, ◌*ℤ◌, ◌≤ℤ◌, ◌<ℤ◌, List, length, slice_index_or, if◌then◌else◌}
 use Rattle.std.specs.Int.{is_negative}
 use Rattle.xn_frac.specs.Ratio.{Ratio}
 use Rattle.xn_lp.specs.Box.{entry}
-use Rattle.xn_lp.specs.Program.{term_at, row_at, cost_at}
+use Rattle.xn_lp.specs.Program.{term_at, row_at}
 use Rattle.xn_lp.specs.declared.program.LpRow.{LpRow}
 use Rattle.xn_lp.specs.declared.program.Lp.{Lp}
 

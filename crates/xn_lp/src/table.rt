@@ -1,4 +1,7 @@
 // The table of the simplex method: some variables stand at a bound, the others are written in them.
+ghost use Rattle.std.specs.Prelude.{◌≡◌, ◌↔◌, pos, IsTrue, slice_set};
+ghost use Rattle.xn_frac.specs.Ratio.{whole};
+
 use crate::program::Lp;
 use crate::stop::Stop;
 use std::alloc::{AllocError, Global};
@@ -68,22 +71,30 @@ impl Nonbasic {
 }
 
 /// 0.
-pub fn zero() -> Frac {
+pub fn zero() -> Frac
+    ensures { result ≡ whole (pos 0) }
+{
     Frac::whole(0)
 }
 
 /// 1.
-pub fn one() -> Frac {
+pub fn one() -> Frac
+    ensures { result ≡ whole (pos 1) }
+{
     Frac::whole(1)
 }
 
 /// A whole number.
-pub fn whole(number: i64) -> Frac {
+pub fn whole(number: i64) -> Frac
+    ensures { result ≡ whole number }
+{
     Frac::whole(i128::from(number))
 }
 
 /// Whether the fraction is 0.
-pub fn is_zero(fraction: Frac) -> bool {
+pub fn is_zero(fraction: Frac) -> bool
+    ensures { IsTrue result ↔ (fraction.num ≡ pos 0) }
+{
     fraction.num() == 0
 }
 
@@ -161,9 +172,11 @@ impl Table {
 }
 
 /// Writes the value at the place, if there is one.
-pub fn put(values: &mut [Frac], place: usize, value: Frac) {
-    if let Some(slot) = values.get_mut(place) {
-        *slot = value;
+pub fn put(values: &mut [Frac], place: usize, value: Frac)
+    ensures { values.new ≡ slice_set values.old place value }
+{
+    if place < values.len() {
+        values[place] = value;
     }
 }
 

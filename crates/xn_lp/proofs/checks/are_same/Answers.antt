@@ -1,8 +1,7 @@
-use Rattle.std.proofs.Common.{◌≡◌, true, rules, ap, ◌∙◌, sym}
+use Rattle.std.proofs.Common.{rules, ◌∙◌, sym}
 use Rattle.std.specs.Int.{w128}
 use Rattle.std.specs.Int.RustNames.{FitsSigned}
 use Rattle.std.proofs.lemmas.Int.{to_z-of_z}
-use Rattle.xn_frac.specs.Ratio.{Ratio, ratio_of, IsFracOf}
 use Rattle.xn_lp.proofs.Certificates.{same_fractions}
 use Rattle.xn_lp.proofs.checks.are_same.Goals as goal
 

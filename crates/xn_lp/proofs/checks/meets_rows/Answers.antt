@@ -1,5 +1,5 @@
-use Rattle.std.proofs.Common.{below_more, rules, ◌≡◌, ◌<◌, length, get_or, arith, ap, ◌∙◌, sym, refl}
-use Rattle.std.specs.Prelude.{pos, ◌*ℤ◌, ◌≤ℤ◌}
+use Rattle.std.proofs.Common.{below_more, rules, ◌≡◌, ◌<◌, length, arith, ap, ◌∙◌}
+use Rattle.std.specs.Prelude.{◌*ℤ◌, ◌≤ℤ◌}
 use Rattle.std.proofs.lemmas.List.{get_or_read}
 use Rattle.std.specs.Int.{w128}
 use Rattle.std.specs.Int.RustNames.{FitsSigned}

@@ -1,5 +1,5 @@
 use Rattle.std.proofs.Common.{ℕ, ◌<◌}
-use Rattle.std.specs.Prelude.{ℤ, ◌*ℤ◌, ◌≤ℤ◌}
+use Rattle.std.specs.Prelude.{◌*ℤ◌, ◌≤ℤ◌}
 use Rattle.xn_lp.specs.Program.{row_at}
 use Rattle.xn_lp.specs.Whole.{number_at, row_total}
 use Rattle.xn_lp.proofs.checks.meets_rows.Given as goal

@@ -1,4 +1,4 @@
-use Rattle.std.proofs.Common.{◌∙◌, ap, refl}
+use Rattle.std.proofs.Common.{refl}
 use Rattle.xn_lp.proofs.LeastTotals.{least_from_prices}
 use Rattle.xn_lp.proofs.prices.least_total.Goals as goal
 

@@ -1,4 +1,4 @@
-use Rattle.std.proofs.Common.{◌≡◌, length, arith, ap, ◌∙◌, sym}
+use Rattle.std.proofs.Common.{◌≡◌, arith, ap, ◌∙◌}
 use Rattle.std.specs.Prelude.{◌*ℤ◌, ◌-ℤ◌}
 use Rattle.std.proofs.lemmas.List.{with_items_is}
 use Rattle.xn_lp.specs.Whole.{weighted_total, cost_total, combined_total, number_at}

@@ -1,5 +1,5 @@
-use Rattle.std.proofs.Common.{◌≡◌, ◌<◌, length, get_or, arith, rules, refl}
-use Rattle.std.specs.Prelude.{pos, neg_ℤ, ◌*ℤ◌, ◌+ℤ◌}
+use Rattle.std.proofs.Common.{◌≡◌, ◌<◌, length, arith, rules, refl}
+use Rattle.std.specs.Prelude.{pos}
 use Rattle.std.proofs.lemmas.List.{get_or_read}
 use Rattle.xn_lp.specs.Program.{term_at}
 use Rattle.xn_lp.specs.Whole.{number_at}

@@ -1,8 +1,8 @@
-use Rattle.std.proofs.Common.{◌≡◌, ◌<◌, length, get_or, arith, ap, ◌∙◌, sym, refl}
-use Rattle.std.specs.Prelude.{pos, ◌*ℤ◌, ◌-ℤ◌}
+use Rattle.std.proofs.Common.{◌≡◌, ◌<◌, length, arith, ap, ◌∙◌}
+use Rattle.std.specs.Prelude.{pos}
 use Rattle.std.proofs.lemmas.List.{get_or_read}
 use Rattle.xn_lp.specs.Program.{row_at}
-use Rattle.xn_lp.specs.Whole.{number_at, row_total, terms_total, weighted_total, total_to}
+use Rattle.xn_lp.specs.Whole.{weighted_total}
 use Rattle.xn_lp.specs.declared.program.LpRow.{LpRow}
 use Rattle.xn_lp.proofs.Totals.{row_step}
 use Rattle.xn_lp.proofs.prices.take_rows.Goals as goal

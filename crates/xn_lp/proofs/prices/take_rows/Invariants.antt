@@ -1,4 +1,4 @@
-use Rattle.std.proofs.Common.{◌≡◌, ℕ, length}
+use Rattle.std.proofs.Common.{◌≡◌, ℕ}
 use Rattle.std.specs.Prelude.{ℤ, ◌*ℤ◌, ◌-ℤ◌}
 use Rattle.xn_lp.specs.Program.{row_at}
 use Rattle.xn_lp.specs.Whole.{total_to, number_at, weighted_total, row_total}

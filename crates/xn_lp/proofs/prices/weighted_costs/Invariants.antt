@@ -1,5 +1,5 @@
 use Rattle.std.proofs.Common.{◌≡◌, ◌<◌, ℕ, length}
-use Rattle.std.specs.Prelude.{ℤ, ◌*ℤ◌}
+use Rattle.std.specs.Prelude.{◌*ℤ◌}
 use Rattle.xn_lp.specs.Whole.{number_at}
 use Rattle.xn_lp.proofs.prices.weighted_costs.Given as goal
 

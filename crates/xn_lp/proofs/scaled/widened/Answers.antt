@@ -4,7 +4,7 @@ use Rattle.std.specs.Int.{w128}
 use Rattle.std.specs.Int.RustNames.{FitsSigned}
 use Rattle.std.proofs.lemmas.Int.{to_z-of_z}
 use Rattle.std.proofs.lemmas.Result.{IfOk-weaker}
-use Rattle.xn_frac.specs.Ratio.{Ratio, ratio_of, IsFracOf}
+use Rattle.xn_frac.specs.Ratio.{ratio_of, IsFracOf}
 use Rattle.xn_lp.specs.Whole.{Divides}
 use Rattle.xn_lp.proofs.Denominators.{widened_above, widened_divides, widened_keeps}
 use Rattle.xn_lp.proofs.scaled.widened.Goals as goal

@@ -1,7 +1,6 @@
 use Rattle.std.proofs.Common.{◌≡◌, ◌<◌, length, arith, ap, ◌∙◌, rules}
-use Rattle.std.specs.Prelude.{IsTrue}
 use Rattle.std.proofs.lemmas.List.{get_or_read}
-use Rattle.xn_lp.specs.Program.{row_at, NamesColumns}
+use Rattle.xn_lp.specs.Program.{row_at}
 use Rattle.xn_lp.specs.declared.program.LpRow.{LpRow}
 use Rattle.xn_lp.proofs.program.Lp.names_columns.Goals as goal
 
