@@ -1,0 +1,4 @@
+pub mod Box
+pub mod Program
+pub mod Whole
+pub mod Laws
