@@ -24,6 +24,16 @@ IsSilent (Limit l) = Unit {0}
 IsSilent Read = Unit {0}
 IsSilent Memory = Unit {0}
 
+-- an end after the command's file was begun
+abbrev pub IsBegun : Status → Type 0
+IsBegun Done = Unit {0}
+IsBegun (Refused f) = Unit {0}
+IsBegun (Limit l) = Unit {0}
+IsBegun Read = Unit {0}
+IsBegun Write = Unit {0}
+IsBegun Words = ⊥
+IsBegun Memory = ⊥
+
 -- an end at which the whole file was judged
 abbrev pub IsJudged : Status → Type 0
 IsJudged Done = Unit {0}

@@ -1,12 +1,12 @@
 // All that the program does.
-ghost use Rattle.std.specs.Prelude.{◌≡◌, ◌^◌, ◌<◌, ◌≤◌, ◌↔◌, ◌⊎◌, Some, true, IfOk, IfSome};
+ghost use Rattle.std.specs.Prelude.{◌≡◌, ◌^◌, ◌<◌, ◌≤◌, ◌↔◌, Some, true, IfOk, IfSome};
 ghost use Rattle.std.specs.String.{string_bytes};
 ghost use Rattle.xn_io.specs.Causes.{Rose};
 ghost use Rattle.xn_io.specs.Input.{bytes_of, IsLonger};
 ghost use Rattle.xn_kinds.specs.declared.flaws.Flaw.{Flaw};
 ghost use Rattle.xn_app.specs.Command.{IsExamine, file_of};
 ghost use Rattle.xn_app.specs.Ends.{EndsWith, SaysDrawing, SaysFlaw, WroteFor};
-ghost use Rattle.xn_app.specs.Status.{IsJudged, IsSilent};
+ghost use Rattle.xn_app.specs.Status.{IsBegun, IsJudged, IsSilent};
 
 use crate::examine::examine;
 use crate::output::{flaw_line, seen_line};
@@ -24,6 +24,7 @@ const MAX_BYTES: u64 = 1 << 62;
 /// of files and of bytes written holds where the input tells its files and the sink what it took.
 pub fn top<I: Input, K: Sink>(alloc: Global, words: &[String], input: &mut I, out: &mut K) -> Status
     ensures words { result ≡ Status.Words ↔ ¬ (IsExamine words.now) }
+    ensures begun { IsBegun result → IsExamine words.now × (I.name input.new ≡ Some (file_of words.now)) }
 
     // What Done and Refused say of the file, and what was written.
     ensures done { result ≡ Status.Done → IfSome (I.told input.old)
@@ -36,7 +37,6 @@ pub fn top<I: Input, K: Sink>(alloc: Global, words: &[String], input: &mut I, ou
     ensures within { IsJudged result → I.got input.new ≤ 2 ^ 62 }
     ensures longer { result ≡ Status.Limit Limit.Bytes → IsLonger (I.told input.old) (file_of words.now) (2 ^ 62) }
     ensures read { result ≡ Status.Read → Rose (I.faults input.old) (I.faults input.new) × (I.failed input.new ≡ true) }
-    ensures name { IsExamine words.now → result ≡ Status.Memory ⊎ (I.name input.new ≡ Some (file_of words.now)) }
     ensures write { result ≡ Status.Write → Rose (K.faults out.old) (K.faults out.new) × IfSome (I.told input.old)
         (λ files. WroteFor (bytes_of files (file_of words.now)) (K.taken out.old) (K.taken out.new)) }
     ensures untouched { IsSilent result → (K.taken out.new ≡ K.taken out.old) × (K.faults out.new ≡ K.faults out.old) }
