@@ -11,7 +11,8 @@ returns c =
     let mid = c.splice.new.self in
     let new = c.splice-2.new.self in
     let size : length mid ≡ length old = ap length c.splice.ensures.swapped ∙ length-swap old c.prev-before.result c.args.d in
-    let P : ℕ → Type 0 = λ k. IsSplice k c.args.d c.args.x (at mid) (at new) in
-    (ap length c.splice-2.ensures.swapped ∙ length-swap mid c.args.d c.args.x ∙ size,
+    let P : ℕ → Type 0 = λ k. IsSplice k c.args.d c.args.x (at mid) (at new) in (
+      ap length c.splice-2.ensures.swapped ∙ length-swap mid c.args.d c.args.x ∙ size,
       place_taken (length old) c.args.x c.args.d c.prev-before.result (at old) (at mid) (at new) c.requires.darts.0 c.requires.darts.1 c.requires.darts.2
-      c.prev-before.ensures.below c.prev-before.ensures.leads c.requires.alone c.requires.permutes c.splice.ensures.splice (subst P size c.splice-2.ensures.splice))
+          c.prev-before.ensures.below c.prev-before.ensures.leads c.requires.alone c.requires.permutes c.splice.ensures.splice (subst P size c.splice-2.ensures.splice),
+    )
