@@ -1,9 +1,9 @@
 -- What the calls that change a map leave is a map, and flat.
-use Rattle.std.proofs.Common.{◌≡◌, ◌≢◌, ℕ, suc, ◌+◌, ◌-◌, ◌*◌, ◌<◌, ◌≤◌, ◌⊎◌, inl, inr, List, [], ◌∷◌, ◌++◌, length, refl, sym, ◌∙◌, ap, subst, arith, length-append}
+use Rattle.std.proofs.Common.{◌≡◌, ◌≢◌, ℕ, suc, ◌+◌, ◌-◌, ◌*◌, ◌<◌, ◌≤◌, ◌⊎◌, inl, inr, List, [], ◌∷◌, ◌++◌, length, sym, ◌∙◌, ap, subst, arith, length-append}
 use Rattle.std.specs.List.{range_with_len}
 use Rattle.xn_model.specs.Graph.{Graph}
 use Rattle.xn_model.specs.Lists.{at}
-use Rattle.xn_model.specs.Map.{IsFlat, IsMap, Joined, tail_of}
+use Rattle.xn_model.specs.Map.{IsFlat, IsMap, Joined}
 use Rattle.xn_graph.specs.Limits.{graph_of}
 use Rattle.xn_surgery.specs.Corners as laws
 use Rattle.xn_surgery.specs.Insertion.{IsInsertion}

@@ -1,9 +1,8 @@
 -- Darts that take the places of others.
-use Rattle.std.proofs.Common.{◌≡◌, ◌≢◌, ℕ, suc, ◌+◌, ◌-◌, ◌*◌, ◌/◌, ◌%◌, ◌<◌, ◌≤◌, ◌⊎◌, inl, inr, cond, eqb, List, length, refl, sym, ◌∙◌, ap, subst, arith, take}
+use Rattle.std.proofs.Common.{◌≡◌, ◌≢◌, ℕ, suc, ◌+◌, ◌*◌, ◌/◌, ◌%◌, ◌<◌, ◌⊎◌, inl, inr, cond, eqb, List, length, refl, sym, ◌∙◌, ap, subst, arith}
 use Rattle.std.proofs.lemmas.Bool.{cases_eq, cond-true, cond-false, eq-eqb, ne_eqb}
-use Rattle.std.proofs.lemmas.List.{get_or-take, length-take-le}
 use Rattle.xn_model.specs.Lists.{at}
-use Rattle.xn_model.specs.Permutation.{IsSplice, Permutes, without}
+use Rattle.xn_model.specs.Permutation.{IsSplice, Permutes}
 use Rattle.xn_genus.specs.Deletion.{dart_before}
 use Rattle.xn_map.specs.Changes.{IsFilled, IsOut, TakesPlace, new_name}
 

@@ -121,3 +121,42 @@ fn corners_of_lone_nodes(rt: HostRuntime) -> Result<(), Fail> {
     assert!(rt; !lone.same_face(Corner::Lone(0), Corner::Lone(1)));
     Ok(())
 }
+
+#[test]
+fn a_first_segment_and_a_triangle(rt: HostRuntime) -> Result<(), Fail> {
+    let mut two = map(rt.alloc(), 2, &[], &[])?;
+    assert_eq!(rt; two.add_edge(Corner::Lone(0), Corner::Lone(1))?, 0);
+    assert_eq!(rt; two.faces(rt.alloc())?, 1);
+    let mut path = map(rt.alloc(), 3, &[(0, 2), (2, 1)], &[0, 2, 1, 3])?;
+    assert_eq!(rt; path.add_edge(Corner::After(0), Corner::After(3))?, 2);
+    assert_eq!(rt;
+        path.euler(rt.alloc())?,
+        Euler {
+            v: 3,
+            e: 3,
+            f: 2,
+            c: 1
+        }
+    );
+    assert_eq!(rt; path.add_node()?, 3);
+    assert_eq!(rt;
+        path.euler(rt.alloc())?,
+        Euler {
+            v: 4,
+            e: 3,
+            f: 3,
+            c: 2
+        }
+    );
+    path.remove_edge(2);
+    assert_eq!(rt;
+        path.euler(rt.alloc())?,
+        Euler {
+            v: 4,
+            e: 2,
+            f: 2,
+            c: 2
+        }
+    );
+    Ok(())
+}

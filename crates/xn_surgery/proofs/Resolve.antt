@@ -1,5 +1,5 @@
 -- A crossing is resolved: a split and two smoothings.
-use Rattle.std.proofs.Common.{ℕ, suc, List, arith}
+use Rattle.std.proofs.Common.{ℕ, suc, List}
 use Rattle.xn_model.specs.Map.{IsFlat, IsMap}
 use Rattle.xn_surgery.specs.Resolution.{IsResolution}
 use Rattle.xn_surgery.proofs.Smooth.{map_smoothed, smoothing_flat}

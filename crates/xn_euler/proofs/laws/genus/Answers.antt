@@ -1,4 +1,3 @@
-use Rattle.std.proofs.Common.{arith}
 use Rattle.xn_genus.proofs.Delete.{flat_left}
 use Rattle.xn_genus.proofs.Euler.{euler}
 use Rattle.xn_surgery.proofs.Resolve.{resolution_flat}

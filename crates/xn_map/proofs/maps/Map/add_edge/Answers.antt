@@ -1,4 +1,3 @@
-use Rattle.std.proofs.Common.{◌≡◌, ◌∙◌, ap, arith, length, sym}
 use Rattle.xn_map.specs.Listed.{map_of}
 use Rattle.xn_map.proofs.Changes.{EdgeAdded, edge_added, grown_alone}
 use Rattle.xn_map.proofs.maps.Map.add_edge.Goals as goal

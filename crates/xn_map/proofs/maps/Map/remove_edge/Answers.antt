@@ -1,4 +1,4 @@
-use Rattle.std.proofs.Common.{◌≡◌, ◌-◌, ◌<◌, ℕ, suc, ap, arith, length, subst, sym}
+use Rattle.std.proofs.Common.{◌≡◌, ◌-◌, ◌<◌, suc, ap, arith, length, subst}
 use Rattle.xn_map.specs.Changes.{Deletes}
 use Rattle.xn_map.specs.Listed.{ListedMap, map_of}
 use Rattle.xn_map.proofs.Removed.{deletes, is_out, removed_listed}
