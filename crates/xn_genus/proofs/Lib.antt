@@ -1,0 +1,14 @@
+pub mod ComponentTransfer
+pub mod Compress
+pub mod Counts
+pub mod Delete
+pub mod Dies
+pub mod Euler
+pub mod Kept
+pub mod Listed
+pub mod Lone
+pub mod Nodes
+pub mod Part
+pub mod Pushed
+pub mod Restrict
+pub mod Tests

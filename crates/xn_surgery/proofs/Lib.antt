@@ -1,0 +1,13 @@
+pub mod Contract
+pub mod FaceWalk
+pub mod Insert
+pub mod InsertFaces
+pub mod InsertFlat
+pub mod Overlay
+pub mod OverlayComponents
+pub mod Smooth
+pub mod Split
+pub mod SplitComponents
+pub mod SplitGenus
+pub mod Stand
+pub mod Subdivide
