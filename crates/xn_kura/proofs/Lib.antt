@@ -1,0 +1,10 @@
+mod Bound
+mod Distinct
+mod Excludes
+mod Faces
+mod LoneComponents
+mod Pairs
+mod Path
+mod Tally
+mod Turns
+mod UsedPaths

@@ -1,0 +1,4 @@
+//! Evidence that a web has no flat map: subdivisions of K5 and of K3,3 (Kuratowski 1930).
+#![tactic(auto)]
+
+pub mod laws;
