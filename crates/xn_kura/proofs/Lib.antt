@@ -1,7 +1,9 @@
 mod Bound
+mod CrossingFree
 mod Distinct
 mod Excludes
 mod Faces
+mod Landmarks
 mod LoneComponents
 mod Pairs
 mod Path
