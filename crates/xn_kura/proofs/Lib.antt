@@ -5,8 +5,10 @@ mod Excludes
 mod Faces
 mod Landmarks
 mod LoneComponents
+mod Marking
 mod Pairs
 mod Path
 mod Tally
 mod Turns
 mod UsedPaths
+mod Walking
