@@ -18,7 +18,8 @@ use Rattle.xn_kura.proofs.Pairs.{ArePairs}
 use Rattle.xn_kura.proofs.Path.{comes, dart_cases, dart_on, from_any, goes, last_of, last_tail, out_facts, start_of}
 use Rattle.xn_kura.proofs.Tally.{count-le_count_if, count-le_cover, count_if}
 use Rattle.xn_kura.proofs.Turns.{next_live, next_moves, turns_along}
-use Rattle.xn_kura.proofs.UsedPaths.{all_darts, count_all, has-all_darts, has-concat, inner_at, lead_at, one_path, path_at, path_distinct, path_of}
+use Rattle.xn_kura.proofs.UsedPaths.{all_darts, count_all, has-all_darts, has-concat, inner_at, lead_at, one_path, path_distinct, path_of}
+use Rattle.xn_kura.specs.Flaws.{path_at}
 
 module _ (ends : List (ℕ × ℕ)) (branch : List ℕ) (pairs : List (ℕ × ℕ)) (paths : List (List ℕ)) (are : ArePairs (length branch) pairs)
     (lead : LeadAll ends branch pairs paths) (once : IsDistinct eqb (concat paths)) (nodes_once : IsDistinct eqb (branch ++ all_inner ends branch pairs paths))

@@ -1,10 +1,12 @@
 mod Bound
+mod Branches
 mod CrossingFree
 mod Distinct
 mod Excludes
 mod Faces
 mod Landmarks
 mod LoneComponents
+mod MarkedPaths
 mod Marking
 mod Pairs
 mod Path

@@ -10,9 +10,7 @@ use Rattle.xn_model.specs.Map.{tail_of}
 use Rattle.xn_kura.proofs.Distinct.{distinct-apart, distinct-left, distinct-right, has-append, has-at, has-left, has-right}
 use Rattle.xn_kura.proofs.Path.{count_at, dart_on, darts}
 use Rattle.xn_kura.proofs.Tally.{count_if, count_if-append}
-
-abbrev pub path_at : List (List ℕ) → ℕ → List ℕ
-path_at paths q = slice_index_or paths q []
+use Rattle.xn_kura.specs.Flaws.{path_at}
 
 -- a segment of a path is used, and by one path alone
 pub has-concat : (paths : List (List ℕ)) (q s : ℕ) → has (path_at paths q) s ≡ true → has (concat paths) s ≡ true

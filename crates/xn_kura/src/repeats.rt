@@ -1,7 +1,8 @@
 // The first segment, and the first node, that the paths meet twice.
-ghost use Rattle.std.specs.Prelude.{◌≡◌, ◌<◌, ◌++◌, [], All, IfNone, IfSome, length, nat_eq};
+ghost use Rattle.std.specs.Prelude.{◌≡◌, ℕ, ◌<◌, ◌++◌, [], true, IfNone, IfSome, length, nat_eq};
 ghost use Rattle.std.specs.List.{IsDistinct, concat};
 ghost use Rattle.xn_model.specs.Evidence.{LeadAll, all_inner};
+ghost use Rattle.xn_model.specs.Lists.{has};
 ghost use Rattle.xn_kura.specs.Flaws.{AreBranches, IsFirstRepeat, PairsWithin};
 ghost use Rattle.xn_kura.specs.Marks.{MarksExactly, MarksMore, StopsAt};
 
@@ -12,7 +13,7 @@ use xn_kinds::Paths;
 
 /// The first segment that stands in the paths twice.
 pub fn repeated_segment(paths: &Paths, marks: &mut [bool]) -> Option<u32>
-    requires within { All (λ s. s < length marks.old) (concat paths.now) }
+    requires within { (s : ℕ) → has (concat paths.now) s ≡ true → s < length marks.old }
     requires ready { MarksExactly [] marks.old }
     ensures none { IfNone result (IsDistinct nat_eq (concat paths.now)) }
     ensures some { IfSome result (IsFirstRepeat (concat paths.now)) }
@@ -48,7 +49,7 @@ pub fn repeated_node(web: &Web, pairs: &[(usize, usize)], branch: &[u32], paths:
 
 /// Marks the segments of the paths, up to the first that is marked already.
 fn mark_segments(paths: &Paths, marks: &mut [bool]) -> Option<u32>
-    requires within { All (λ s. s < length marks.old) (concat paths.now) }
+    requires within { (s : ℕ) → has (concat paths.now) s ≡ true → s < length marks.old }
     ensures none { IfNone result (MarksMore marks.old (concat paths.now) marks.new) }
     ensures some { IfSome result (λ s. StopsAt marks.old (concat paths.now) s marks.new) }
 {
