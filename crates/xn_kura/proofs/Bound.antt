@@ -1,6 +1,6 @@
 -- Each live face has so many marked darts, so there are not many faces.
 use Rattle.std.proofs.Common.{◌≡◌, ℕ, zero, suc, ◌+◌, ◌*◌, ◌/◌, ◌<◌, ◌≤◌, inl, inr, Bool, true, false, not, ◌&&◌, List, length, refl, sym, ◌∙◌, ap, arith}
-use Rattle.std.proofs.lemmas.Bool.{and_parts, cases_Bool, not-true, false_from_ne_true, both_ways}
+use Rattle.std.proofs.lemmas.Bool.{and_parts, cases_Bool, not-true, false_from_ne_true}
 use Rattle.xn_model.specs.Lists.{one_if}
 use Rattle.xn_model.specs.Map.{face_step, reverse_of}
 use Rattle.xn_model.specs.Permutation.{Permutes, count_below, cycle_count, is_least}
@@ -57,7 +57,8 @@ module _ (ends : List (ℕ × ℕ)) (live : ℕ → Bool) (next : ℕ → ℕ) (
   cycles_bound =
       let split = parts_add_up n face lives face_permutes stays_alive in
       let closed = cycle_count_with-closed n face (λ d. not (lives d)) face_permutes (λ d d_in. ap not (stays_alive d d_in)) in
-      let even = count-even (length ends) (λ d. is_least n face d && not (lives d)) (λ s. not (live s))
+      let even : count_below n (λ d. is_least n face d && not (lives d)) ≤ count_below (length ends) (λ s. not (live s)) =
+      count-even (length ends) (λ d. is_least n face d && not (lives d)) (λ s. not (live s))
       (λ s s_in t. let half : (2 * s) / 2 ≡ s = omega arith in ap (λ x. not (live x)) (sym half) ∙ (and_parts _ _ t).1)
       (λ s s_in. false_from_ne_true _ (λ t.
       let parts : (is_least n face (2 * s + 1) ≡ true) × (not (live ((2 * s + 1) / 2)) ≡ true) = and_parts _ _ t in

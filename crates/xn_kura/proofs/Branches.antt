@@ -1,13 +1,13 @@
 -- Branch nodes: distinct nodes of the web.
-use Rattle.std.proofs.Common.{◌≡◌, ◌≢◌, ℕ, zero, suc, ◌+◌, ◌<◌, inl, inr, Bool, true, false, not, ◌||◌, eqb, ltb, get_or, take, List, [], ◌∷◌, ◌++◌, length, refl, sym, ◌∙◌, ap, arith, length-take}
+use Rattle.std.proofs.Common.{◌≡◌, ◌≢◌, ℕ, zero, suc, ◌<◌, inl, inr, Bool, true, false, not, ◌||◌, eqb, ltb, take, List, [], ◌∷◌, length, refl, sym, ◌∙◌, ap, arith, length-take}
 use Rattle.std.specs.Prelude.{All, slice_index}
 use Rattle.std.specs.List.{AllByRecursion, IsDistinct}
-use Rattle.std.proofs.lemmas.Bool.{cases_Bool, both_ways, eqb-true, eq-eqb, ltb-true, lt-ltb, ne_eqb, or_cases, or_left, or_right, false_from_ne_true}
+use Rattle.std.proofs.lemmas.Bool.{both_ways, eqb-true, eq-eqb, ltb-true, lt-ltb, ne_eqb, or_cases, or_left, or_right, false_from_ne_true}
 use Rattle.std.proofs.lemmas.List.{get_or-take}
 use Rattle.std.proofs.lemmas.List.Elements.{All-from_get_or}
 use Rattle.xn_model.specs.Lists.{has}
 use Rattle.xn_kura.proofs.Distinct.{positions_apart}
-use Rattle.xn_kura.specs.Flaws.{AreBranches, wrong_branch}
+use Rattle.xn_kura.specs.Flaws.{AreBranches}
 
 -- an element stands at a place
 pub place_of : (xs : List ℕ) (x : ℕ) → has xs x ≡ true → (i : ℕ) × (i < length xs) × (slice_index xs i ≡ x)
@@ -55,11 +55,11 @@ module _ (nodes : ℕ) (branch : List ℕ) where
   branches_from below distinct i i_in =
       let v = slice_index branch i in
       right (ltb v nodes) (has (take i branch) v) (lt-ltb v nodes (below i 0 i_in)) (false_from_ne_true _ (λ h.
-          let found = place_of (take i branch) v h in
-          let j_before : found.0 < i = omega (arith, found.1, length-take i branch, i_in) in
-          let there : slice_index branch found.0 ≡ v = sym (get_or-take i branch found.0 0 j_before) ∙ found.2 in
-          let same : found.0 ≡ i = positions_apart branch distinct found.0 i (omega (arith, j_before, i_in)) i_in there in
-          omega (arith, same, j_before)))
+      let found = place_of (take i branch) v h in
+      let j_before : found.0 < i = omega (arith, found.1, length-take i branch, i_in) in
+      let there : slice_index branch found.0 ≡ v = sym (get_or-take i branch found.0 0 j_before) ∙ found.2 in
+      let same : found.0 ≡ i = positions_apart branch distinct found.0 i (omega (arith, j_before, i_in)) i_in there in
+      omega (arith, same, j_before)))
     where
       right : (a b : Bool) → a ≡ true → b ≡ false → (not a || b) ≡ false
       right true b one two = two

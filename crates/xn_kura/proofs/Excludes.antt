@@ -1,22 +1,25 @@
 -- A web with a subdivision of K5 or of K3,3 has no flat map: each face meets too many branch nodes.
-use Rattle.std.proofs.Common.{◌≡◌, ℕ, ◌+◌, ◌*◌, ◌/◌, ◌<◌, ◌≤◌, Bool, true, false, not, eqb, ltb, List, ◌++◌, length, refl, sym, ◌∙◌, ap, subst, arith, length-append}
-use Rattle.std.specs.List.{IsDistinct, concat}
-use Rattle.std.proofs.lemmas.Bool.{both_ways, eqb-true, not-true, false_from_ne_true}
-use Rattle.xn_model.specs.Evidence.{IsFive, IsSubdivision, IsThreeThree, LeadAll, all_inner, five_pairs, three_pairs}
+use Rattle.std.proofs.Common.{◌≡◌, ℕ, ◌+◌, ◌*◌, ◌/◌, ◌<◌, ◌≤◌, Bool, true, false, not, ltb, List, ◌++◌, length, refl, sym, ◌∙◌, ap, subst, arith, length-append}
+use Rattle.std.specs.List.{concat}
+use Rattle.std.proofs.lemmas.Bool.{both_ways, not-true, false_from_ne_true}
+use Rattle.xn_model.specs.Evidence.{IsFive, IsSubdivision, IsThreeThree, all_inner, five_pairs, three_pairs}
 use Rattle.xn_model.specs.Graph.{Graph, ends_at}
 use Rattle.xn_model.specs.Lists.{has}
 use Rattle.xn_model.specs.Map.{IsFlatMap, face_step, is_lone, tail_of}
-use Rattle.xn_model.specs.Permutation.{count_below}
 use Rattle.xn_ring.proofs.Marks.{marks_are_many}
-use Rattle.xn_ring.specs.Parts.{HoldsMarks, cycle_count_with}
+use Rattle.xn_ring.specs.Parts.{cycle_count_with}
 use Rattle.xn_genus.proofs.Compress.{tail_in}
 use Rattle.xn_genus.proofs.Kept.{EndsIn-kept, live_dart_if_not_lone, no_live_dart_if_lone}
 use Rattle.xn_genus.proofs.Restrict.{restricted_flat, restricted_map}
-use Rattle.xn_genus.specs.Live.{IsFlatOn, IsMapOn, kept, passing_over}
+use Rattle.xn_genus.specs.Live.{IsMapOn, kept, passing_over}
+use Rattle.xn_kinds.specs.Row.{EvidenceHolds}
+use Rattle.xn_kinds.specs.declared.rows.Evidence.{Evidence}
+use Rattle.xn_kinds.specs.declared.rows.Evidence.TheVariants.{Extension, Five, ThreeThree}
+use Rattle.xn_kura.specs.Flaws.{HasAKind}
 use Rattle.xn_kura.proofs.Bound.{cycles_bound, face_permutes}
 use Rattle.xn_kura.proofs.Faces.{four_in_each, inner_length, live_node, marked_few, some_live, three_in_each}
 use Rattle.xn_kura.proofs.LoneComponents.{lone-lt_components}
-use Rattle.xn_kura.proofs.Pairs.{ArePairs, all_below, all_below_at, pairs_by_test}
+use Rattle.xn_kura.proofs.Pairs.{ArePairs, all_below_at, pairs_by_test}
 use Rattle.xn_kura.proofs.Tally.{count-le_cover, count-not, distinct-le}
 use Rattle.xn_kura.proofs.UsedPaths.{used_in}
 
@@ -109,3 +112,8 @@ no_flat_three_three web branch paths is next flat =
     let many = many_faces web branch three_pairs paths are (omega arith) is.1 next flat in
     let few = four_a_face web branch three_pairs paths are (omega arith) is.1 next flat (λ i. ltb i 3) crosses in
     omega (arith, many, few, is.0)
+
+pub no_flat : (web : Graph) (evidence : Evidence) → HasAKind evidence → EvidenceHolds web evidence → (next : ℕ → ℕ) → IsFlatMap web next → ⊥
+no_flat web (Five branch paths) kind holds next flat = no_flat_five web branch paths holds next flat
+no_flat web (ThreeThree branch paths) kind holds next flat = no_flat_three_three web branch paths holds next flat
+no_flat web (Extension list) kind holds next flat = kind

@@ -3,7 +3,7 @@ use Rattle.std.proofs.Common.{◌≡◌, ◌≢◌, ℕ, zero, suc, ◌+◌, ◌
 use Rattle.std.specs.List.{IsDistinct, concat}
 use Rattle.std.specs.Prelude.{slice_index}
 use Rattle.std.proofs.lemmas.List.Elements.{All-from_recursion}
-use Rattle.std.proofs.lemmas.Bool.{cases_eq, both_ways, and_from, and_parts, or_cases, or_left, or_right, eqb-true, eq-eqb, ne_eqb, false_from_ne_true}
+use Rattle.std.proofs.lemmas.Bool.{cases_eq, both_ways, and_from, and_parts, or_left, or_right, eq-eqb, ne_eqb, false_from_ne_true}
 use Rattle.xn_model.specs.Evidence.{LeadAll, LeadsTo, all_inner, far_end, inner_nodes}
 use Rattle.xn_model.specs.Graph.{ends_at}
 use Rattle.xn_model.specs.Lists.{has, one_if}
@@ -190,7 +190,7 @@ module _ (ends : List (ℕ × ℕ)) (branch : List ℕ) (pairs : List (ℕ × �
   after : (q i j e e' : ℕ) → IsStart q i j e e' → (r k e2 : ℕ) × IsStart r j k (next e') e2 × Reaches face e (next e') × (i ≢ k) × (j ≢ k) × (i ≢ j)
   after q i j e e' start =
       let f = facts_of q i j e e' start in
-      let e_live = has-concat paths q _ f.far.segment in
+      let e_live = has-concat paths q (e' / 2) f.far.segment in
       let y = next e' in
       let y_in = map.permutes.below e' f.far.below in
       let y_at : tail_of ends y ≡ b j = map.stays e' f.far.below ∙ f.far.at in
@@ -205,7 +205,7 @@ module _ (ends : List (ℕ × ℕ)) (branch : List ℕ) (pairs : List (ℕ × �
       ] in
       let more = are.other q j start.q_in own.1 in
       let third = end_of more.0 j more.1 more.3 in
-      let third_live = has-concat paths more.0 _ third.1.segment in
+      let third_live = has-concat paths more.0 (third.0 / 2) third.1.segment in
       let apart : e' ≢ third.0 = λ same. more.2 (one_path paths once more.0 q (third.0 / 2) third.1.segment (ap (λ x. has (path_at paths q) (x / 2)) (sym same) ∙ f.far.segment)) in
       let moves : y ≢ e' = next_moves ends live next map e' third.0 f.far.below third.1.below e_live third_live (f.far.at ∙ sym third.1.at) apart in
       let j_not_k : j ≢ k = elim second.way [

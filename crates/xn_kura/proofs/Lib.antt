@@ -10,6 +10,7 @@ mod MarkedPaths
 mod Marking
 mod Pairs
 mod Path
+mod Stages
 mod Tally
 mod Turns
 mod UsedPaths

@@ -1,13 +1,12 @@
 -- Marks along all paths, and what they show of repeats.
-use Rattle.std.proofs.Common.{◌≡◌, ◌≢◌, ℕ, zero, suc, ◌+◌, ◌<◌, ◌≤◌, inl, inr, true, false, eqb, get_or, take, drop, List, [], ◌∷◌, ◌++◌, length, refl, sym, ◌∙◌, ap, ap₂, subst, arith, append_assoc, Bool}
+use Rattle.std.proofs.Common.{◌≡◌, ℕ, zero, suc, ◌+◌, ◌<◌, true, eqb, get_or, take, drop, List, [], ◌∷◌, ◌++◌, length, refl, sym, ◌∙◌, ap, subst, arith, append_assoc, Bool}
 use Rattle.std.specs.Prelude.{Option, None, Some, IfNone, IfSome, All}
 use Rattle.std.specs.List.{IsDistinct, concat}
-use Rattle.std.proofs.lemmas.Bool.{both_ways, or_left, eq-eqb}
+use Rattle.std.proofs.lemmas.Bool.{or_left, eq-eqb}
 use Rattle.std.proofs.lemmas.List.{append-nil, take_more}
 use Rattle.std.proofs.lemmas.List.Elements.{All-from_get_or}
 use Rattle.std.proofs.lemmas.List.Folds.{concat-append}
 use Rattle.xn_model.specs.Evidence.{all_inner, inner_nodes}
-use Rattle.xn_model.specs.Graph.{ends_at}
 use Rattle.xn_model.specs.Lists.{has}
 use Rattle.xn_kura.proofs.Distinct.{distinct-apart, has-at}
 use Rattle.xn_kura.proofs.Marking.{MarksMore-trans, StopsAt-between, distinct-from_marks, repeat-from_marks}

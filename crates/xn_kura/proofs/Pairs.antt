@@ -1,5 +1,5 @@
 -- What is used of the pairs of branch nodes, found by computation.
-use Rattle.std.proofs.Common.{◌≡◌, ◌≢◌, ℕ, zero, suc, ◌<◌, ◌⊎◌, inl, inr, Bool, true, false, not, ◌&&◌, ◌||◌, eqb, ltb, List, length, refl, sym, ◌∙◌, ap, arith}
+use Rattle.std.proofs.Common.{◌≡◌, ◌≢◌, ℕ, zero, suc, ◌<◌, ◌⊎◌, inl, inr, Bool, true, not, ◌&&◌, ◌||◌, eqb, ltb, List, length, refl, sym, ◌∙◌, ap, arith}
 use Rattle.std.proofs.lemmas.Bool.{cases_eq, both_ways, and_from, and_parts, or_cases, or_left, or_right, eqb-true, eqb-false, eq-eqb, ltb-true, not-true, not_from_false}
 use Rattle.xn_model.specs.Graph.{ends_at, touches}
 use Rattle.xn_ring.proofs.Orbits.{first_below}

@@ -6,7 +6,9 @@ use Rattle.xn_model.specs.Graph.{Graph}
 use Rattle.xn_model.specs.Map.{IsFlatMap}
 use Rattle.xn_model.specs.Orders.{crossing_count}
 use Rattle.xn_kinds.specs.Row.{EvidenceHolds}
+use Rattle.xn_kinds.specs.declared.rows.Evidence.{Evidence}
 use Rattle.xn_kinds.specs.declared.rows.Evidence.TheVariants.{Five, ThreeThree}
+use Rattle.xn_kura.specs.Flaws.{HasAKind}
 
 -- a web in which five nodes are joined by paths, each two, has no flat map
 abbrev pub FiveExcludesFlat : Type 0
@@ -19,6 +21,11 @@ abbrev pub ThreeThreeExcludesFlat : Type 0
 ThreeThreeExcludesFlat =
     (web : Graph) (branch : List ℕ) (paths : List (List ℕ)) → EvidenceHolds web (ThreeThree branch paths) →
     (next : ℕ → ℕ) → ¬ IsFlatMap web next
+
+-- so no web for which an evidence of either kind holds has one
+abbrev pub EvidenceExcludesFlat : Type 0
+EvidenceExcludesFlat =
+    (web : Graph) (evidence : Evidence) → HasAKind evidence → EvidenceHolds web evidence → (next : ℕ → ℕ) → ¬ IsFlatMap web next
 
 -- a drawing without crossings is a flat map of the graph itself
 abbrev pub CrossingFreeIsFlat : Type 0

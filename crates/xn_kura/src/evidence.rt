@@ -12,10 +12,31 @@ use xn_graph::Web;
 use xn_kinds::{Evidence, EvidenceFlaw, Paths};
 
 /// The pairs of branch nodes that the paths of a Five join.
-const FIVE_PAIRS: [(usize, usize); 10] = [(0, 1), (0, 2), (0, 3), (0, 4), (1, 2), (1, 3), (1, 4), (2, 3), (2, 4), (3, 4)];
+const FIVE_PAIRS: [(usize, usize); 10] = [
+    (0, 1),
+    (0, 2),
+    (0, 3),
+    (0, 4),
+    (1, 2),
+    (1, 3),
+    (1, 4),
+    (2, 3),
+    (2, 4),
+    (3, 4),
+];
 
 /// The pairs of branch nodes that the paths of a ThreeThree join.
-const THREE_PAIRS: [(usize, usize); 9] = [(0, 3), (0, 4), (0, 5), (1, 3), (1, 4), (1, 5), (2, 3), (2, 4), (2, 5)];
+const THREE_PAIRS: [(usize, usize); 9] = [
+    (0, 3),
+    (0, 4),
+    (0, 5),
+    (1, 3),
+    (1, 4),
+    (1, 5),
+    (2, 3),
+    (2, 4),
+    (2, 5),
+];
 
 /// Whether an evidence, a Five with ten paths or a ThreeThree with nine, holds for a web; if not, its first flaw.
 ///
@@ -30,12 +51,19 @@ pub fn holds(web: &Web, evidence: &Evidence, marks: &mut Marks) -> Result<(), Ev
     match evidence {
         Evidence::Five { branch, paths } => judge(web, &FIVE_PAIRS, branch, paths, marks),
         Evidence::ThreeThree { branch, paths } => judge(web, &THREE_PAIRS, branch, paths, marks),
+        // `kind` rules it out
         Evidence::Extension { .. } => Ok(()),
     }
 }
 
 /// Whether there are such paths for these pairs of branch nodes; if not, the first flaw.
-fn judge(web: &Web, pairs: &[(usize, usize)], branch: &[u32], paths: &Paths, marks: &mut Marks) -> Result<(), EvidenceFlaw>
+fn judge(
+    web: &Web,
+    pairs: &[(usize, usize)],
+    branch: &[u32],
+    paths: &Paths,
+    marks: &mut Marks,
+) -> Result<(), EvidenceFlaw>
     requires pairs { PairsWithin (length branch.now) pairs.now }
     requires paths { length paths.now ≡ length pairs.now }
     requires few { length branch.now ≤ 6 × length pairs.now ≤ 10 }
@@ -72,7 +100,12 @@ fn first_wrong_branch(nodes: u32, branch: &[u32]) -> Option<u32>
 }
 
 /// Whether each path leads from its first branch node to its second; if not, the flaw of the first that doesn't.
-fn lead(web: &Web, pairs: &[(usize, usize)], branch: &[u32], paths: &Paths) -> Result<(), EvidenceFlaw>
+fn lead(
+    web: &Web,
+    pairs: &[(usize, usize)],
+    branch: &[u32],
+    paths: &Paths,
+) -> Result<(), EvidenceFlaw>
     requires pairs { PairsWithin (length branch.now) pairs.now }
     requires paths { length paths.now ≡ length pairs.now }
     requires few { length pairs.now ≤ 10 }

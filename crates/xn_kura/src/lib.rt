@@ -5,6 +5,8 @@ mod evidence;
 pub mod laws;
 mod marks;
 mod repeats;
+#[cfg(test)]
+mod tests;
 mod walks;
 
 pub use evidence::holds;

@@ -27,7 +27,13 @@ pub fn repeated_segment(paths: &Paths, marks: &mut [bool]) -> Option<u32>
 }
 
 /// The first inner node of a path that is a branch node or was met before.
-pub fn repeated_node(web: &Web, pairs: &[(usize, usize)], branch: &[u32], paths: &Paths, marks: &mut [bool]) -> Option<u32>
+pub fn repeated_node(
+    web: &Web,
+    pairs: &[(usize, usize)],
+    branch: &[u32],
+    paths: &Paths,
+    marks: &mut [bool],
+) -> Option<u32>
     requires pairs { PairsWithin (length branch.now) pairs.now }
     requires paths { length paths.now ≡ length pairs.now }
     requires branches { AreBranches web.now.nodes branch.now }
@@ -62,7 +68,13 @@ fn mark_segments(paths: &Paths, marks: &mut [bool]) -> Option<u32>
 }
 
 /// Marks the inner nodes of the paths, up to the first that is marked already.
-fn mark_inner_nodes(web: &Web, pairs: &[(usize, usize)], branch: &[u32], paths: &Paths, marks: &mut [bool]) -> Option<u32>
+fn mark_inner_nodes(
+    web: &Web,
+    pairs: &[(usize, usize)],
+    branch: &[u32],
+    paths: &Paths,
+    marks: &mut [bool],
+) -> Option<u32>
     requires pairs { PairsWithin (length branch.now) pairs.now }
     requires paths { length paths.now ≡ length pairs.now }
     requires lead { LeadAll web.now.ends branch.now pairs.now paths.now }

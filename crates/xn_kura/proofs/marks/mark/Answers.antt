@@ -1,5 +1,5 @@
-use Rattle.std.proofs.Common.{◌∙◌, false, take, get_or, drop, set, true, ◌++◌, [], ◌∷◌, ◌+◌, length, List, Bool, ℕ, sym, subst, ap, arith}
-use Rattle.std.proofs.lemmas.List.{take_more, take_all}
+use Rattle.std.proofs.Common.{take, get_or, drop, set, true, ◌+◌, List, ℕ, sym, subst, arith}
+use Rattle.std.proofs.lemmas.List.{take_more}
 use Rattle.xn_kura.proofs.Marking.{MarksMore-none, MarksMore-one, StopsAt-met}
 use Rattle.xn_kura.proofs.Walking.{around}
 use Rattle.xn_kura.specs.Marks.{MarksMore}

@@ -1,6 +1,5 @@
-use Rattle.std.proofs.Common.{◌≡◌, ◌<◌, ◌∙◌, ◌+◌, ◌++◌, suc, take, drop, length, List, ℕ, sym, ap, subst, arith}
+use Rattle.std.proofs.Common.{◌<◌, ◌∙◌, ◌++◌, suc, take, drop, length, List, ℕ, sym, ap, subst, arith}
 use Rattle.xn_model.specs.Evidence.{LeadsTo, all_inner, inner_nodes}
-use Rattle.xn_model.specs.Graph.{ends_at}
 use Rattle.xn_kura.proofs.MarkedPaths.{inner_around, inner_more}
 use Rattle.xn_kura.proofs.Marking.{MarksMore-trans, StopsAt-between}
 use Rattle.xn_kura.proofs.UsedPaths.{lead_at}

@@ -1,14 +1,12 @@
-use Rattle.std.proofs.Common.{◌≡◌, ◌<◌, ◌∙◌, ◌+◌, ◌++◌, take, length, List, Bool, ℕ, sym, ap, subst, arith}
-use Rattle.std.specs.Prelude.{IfNone, IfSome}
-use Rattle.std.specs.List.{IsDistinct}
+use Rattle.std.proofs.Common.{◌≡◌, ◌<◌, ◌∙◌, ◌++◌, take, length, List, ℕ, sym, ap, subst, arith}
 use Rattle.std.proofs.lemmas.List.{take_all}
 use Rattle.xn_model.specs.Evidence.{LeadsTo, all_inner, inner_nodes}
 use Rattle.xn_kura.proofs.Branches.{branches_distinct}
 use Rattle.xn_kura.proofs.MarkedPaths.{inner_more, marks_all, marks_on, shown_by_marks}
 use Rattle.xn_kura.proofs.Marking.{Clears-trans, unmarked}
 use Rattle.xn_kura.proofs.UsedPaths.{lead_at}
-use Rattle.xn_kura.specs.Flaws.{IsFirstRepeat, begins_at, goes_to}
-use Rattle.xn_kura.specs.Marks.{Clears, MarksMore, MarksWithin}
+use Rattle.xn_kura.specs.Flaws.{begins_at, goes_to}
+use Rattle.xn_kura.specs.Marks.{Clears}
 use Rattle.xn_kura.proofs.repeats.repeated_node.Goals as goal
 
 pub clear_inner-requires-clause-leads : goal.clear_inner-requires-clause-leads

@@ -1,4 +1,4 @@
-use Rattle.std.proofs.Common.{◌≡◌, ◌<◌, ◌≤◌, ◌∙◌, ◌+◌, ℕ, false, get_or, set, drop, List, [], ◌∷◌, ◌++◌, length, refl, sym, subst, ap, arith, append_assoc, length-drop, length-take}
+use Rattle.std.proofs.Common.{◌≡◌, ◌<◌, ◌≤◌, ◌∙◌, ◌+◌, ℕ, get_or, drop, List, [], ◌∷◌, ◌++◌, length, sym, subst, ap, arith, append_assoc, length-drop, length-take}
 use Rattle.std.proofs.lemmas.List.{append-nil, get_or-take}
 use Rattle.xn_model.specs.Evidence.{LeadsTo, far_end, inner_nodes}
 use Rattle.xn_model.specs.Graph.{ends_at}

@@ -1,8 +1,8 @@
-use Rattle.std.proofs.Common.{◌≡◌, ◌<◌, ◌≤◌, ◌∙◌, ◌+◌, ℕ, true, get_or, set, drop, List, [], ◌∷◌, ◌++◌, length, refl, sym, subst, ap, arith, append_assoc, length-drop, length-take}
+use Rattle.std.proofs.Common.{◌≡◌, ◌<◌, ◌≤◌, ◌∙◌, ◌+◌, ℕ, get_or, drop, List, [], ◌∷◌, ◌++◌, length, sym, subst, ap, arith, append_assoc, length-drop, length-take}
 use Rattle.std.proofs.lemmas.List.{append-nil, get_or-take}
 use Rattle.xn_model.specs.Evidence.{LeadsTo, far_end, inner_nodes}
 use Rattle.xn_model.specs.Graph.{ends_at}
-use Rattle.xn_kura.proofs.Marking.{MarksMore-none, MarksMore-one, StopsAt-met}
+use Rattle.xn_kura.proofs.Marking.{MarksMore-one, StopsAt-met}
 use Rattle.xn_kura.proofs.Walking.{far_end_in, inner_step, no_inner_left, step}
 use Rattle.xn_kura.specs.Marks.{MarksMore}
 use Rattle.xn_kura.proofs.walks.mark_inner.Goals as goal
