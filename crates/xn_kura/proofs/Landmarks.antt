@@ -1,0 +1,59 @@
+-- K5 and K3,3: no flat map, and the crossing number of K5.
+use Rattle.std.proofs.Common.{ℕ, ◌<◌, ◌⊎◌, inl, inr, List, [], ◌∷◌, refl, arith, rules}
+use Rattle.std.specs.Cmp.{nat_eq_equiv}
+use Rattle.std.proofs.lemmas.Bool.{cases_eq}
+use Rattle.std.proofs.lemmas.List.Elements.{All-from_recursion}
+use Rattle.std.proofs.lemmas.Map.Made.{IsDistinct-from_count}
+use Rattle.xn_model.specs.Drawing.{IsCrossingNumber, Least}
+use Rattle.xn_model.specs.Evidence.{IsFive, IsThreeThree}
+use Rattle.xn_model.specs.Examples.{k33, k5}
+use Rattle.xn_model.specs.Graph.{Graph}
+use Rattle.xn_model.specs.Map.{IsFlatMap}
+use Rattle.xn_model.specs.Orders.{crossing_count}
+use Rattle.xn_model.proofs.Examples.{k5_with_one_crossing}
+use Rattle.xn_kura.proofs.CrossingFree.{flat_where_none_cross}
+use Rattle.xn_kura.proofs.Excludes.{no_flat_five, no_flat_three_three}
+use Rattle.xn_kura.specs.Laws.{KuratowskiGraphs}
+
+least_one : (g : Graph) → ((next : ℕ → ℕ) → ¬ IsFlatMap g next) → Least g 1
+least_one g never ord next drawing = elim (cases_eq (crossing_count g ord) 0) [
+  | inl none ↦ absurd (never next (flat_where_none_cross g ord next drawing none))
+  | inr some ↦ omega (arith, some)
+]
+
+pub least_by_evidence : (g : Graph) (branch : List ℕ) (paths : List (List ℕ)) → IsFive g branch paths ⊎ IsThreeThree g branch paths → Least g 1
+least_by_evidence g branch paths (inl is) = least_one g (no_flat_five g branch paths is)
+least_by_evidence g branch paths (inr is) = least_one g (no_flat_three_three g branch paths is)
+
+k5_is_five : IsFive k5 (0 ∷ 1 ∷ 2 ∷ 3 ∷ 4 ∷ []) ((0 ∷ []) ∷ (1 ∷ []) ∷ (2 ∷ []) ∷ (3 ∷ []) ∷ (4 ∷ []) ∷ (5 ∷ []) ∷ (6 ∷ []) ∷ (7 ∷ []) ∷ (8 ∷ []) ∷ (9 ∷ []) ∷ [])
+k5_is_five = (
+  refl,
+  record {
+    below = All-from_recursion (λ v. v < 5) (0 ∷ 1 ∷ 2 ∷ 3 ∷ 4 ∷ []) (omega arith, (omega arith, (omega arith, (omega arith, (omega arith, tt)))));
+    lead = search (rules, arith);
+    once = IsDistinct-from_count nat_eq_equiv _ refl;
+    apart = IsDistinct-from_count nat_eq_equiv _ refl;
+  },
+)
+
+k33_is_three_three : IsThreeThree k33 (0 ∷ 1 ∷ 2 ∷ 3 ∷ 4 ∷ 5 ∷ []) ((0 ∷ []) ∷ (1 ∷ []) ∷ (2 ∷ []) ∷ (3 ∷ []) ∷ (4 ∷ []) ∷ (5 ∷ []) ∷ (6 ∷ []) ∷ (7 ∷ []) ∷ (8 ∷ []) ∷ [])
+k33_is_three_three = (
+  refl,
+  record {
+    below = All-from_recursion (λ v. v < 6) (0 ∷ 1 ∷ 2 ∷ 3 ∷ 4 ∷ 5 ∷ []) (omega arith, (omega arith, (omega arith, (omega arith, (omega arith, (omega arith, tt))))));
+    lead = search (rules, arith);
+    once = IsDistinct-from_count nat_eq_equiv _ refl;
+    apart = IsDistinct-from_count nat_eq_equiv _ refl;
+  },
+)
+
+pub of_kuratowski : KuratowskiGraphs
+of_kuratowski = record {
+  k5_not_flat = no_flat_five k5 _ _ k5_is_five;
+  k33_not_flat = no_flat_three_three k33 _ _ k33_is_three_three;
+  k5_crosses = least_by_evidence k5 _ _ (inl k5_is_five);
+  k33_crosses = least_by_evidence k33 _ _ (inr k33_is_three_three);
+}
+
+pub k5_has_one_crossing : IsCrossingNumber k5 1
+k5_has_one_crossing = record { least = of_kuratowski.k5_crosses; at_most = k5_with_one_crossing.at_most_one }

@@ -1,0 +1,17 @@
+mod Bound
+mod Branches
+mod CrossingFree
+mod Distinct
+mod Excludes
+mod Faces
+mod Landmarks
+mod LoneComponents
+mod MarkedPaths
+mod Marking
+mod Pairs
+mod Path
+mod Stages
+mod Tally
+mod Turns
+mod UsedPaths
+mod Walking

@@ -1,0 +1,10 @@
+use Rattle.std.proofs.Common.{◌≡◌, ℕ, List, ◌++◌, drop}
+use Rattle.xn_model.specs.Evidence.{LeadsTo, inner_nodes}
+use Rattle.xn_kura.specs.Marks.{Clears}
+use Rattle.xn_kura.proofs.walks.clear_inner.Given as goal
+
+abbrev pub invariant-loop-s : goal.invariant-loop-s
+invariant-loop-s l = record {
+  leads : (v : ℕ) × LeadsTo l.web.ends l.at (drop l.s-index l.path) v;
+  cleared : (passed : List ℕ) × (inner_nodes l.web.ends l.from l.path ≡ passed ++ inner_nodes l.web.ends l.at (drop l.s-index l.path)) × Clears l.initial.marks passed l.marks;
+}

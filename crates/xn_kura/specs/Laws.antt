@@ -1,0 +1,50 @@
+-- What evidence shows.
+use Rattle.std.specs.Prelude.{◌≡◌, ℕ, ◌⊎◌, List}
+use Rattle.xn_model.specs.Drawing.{IsCrossingNumber, IsDrawing, Least}
+use Rattle.xn_model.specs.Examples.{k33, k5}
+use Rattle.xn_model.specs.Graph.{Graph}
+use Rattle.xn_model.specs.Map.{IsFlatMap}
+use Rattle.xn_model.specs.Orders.{crossing_count}
+use Rattle.xn_kinds.specs.Row.{EvidenceHolds}
+use Rattle.xn_kinds.specs.declared.rows.Evidence.{Evidence}
+use Rattle.xn_kinds.specs.declared.rows.Evidence.TheVariants.{Five, ThreeThree}
+use Rattle.xn_kura.specs.Flaws.{HasAKind}
+
+-- a web in which five nodes are joined by paths, each two, has no flat map
+abbrev pub FiveExcludesFlat : Type 0
+FiveExcludesFlat =
+    (web : Graph) (branch : List ℕ) (paths : List (List ℕ)) → EvidenceHolds web (Five branch paths) →
+    (next : ℕ → ℕ) → ¬ IsFlatMap web next
+
+-- nor has one in which three nodes are each joined to three others
+abbrev pub ThreeThreeExcludesFlat : Type 0
+ThreeThreeExcludesFlat =
+    (web : Graph) (branch : List ℕ) (paths : List (List ℕ)) → EvidenceHolds web (ThreeThree branch paths) →
+    (next : ℕ → ℕ) → ¬ IsFlatMap web next
+
+-- so no web for which an evidence of either kind holds has one
+abbrev pub EvidenceExcludesFlat : Type 0
+EvidenceExcludesFlat =
+    (web : Graph) (evidence : Evidence) → HasAKind evidence → EvidenceHolds web evidence → (next : ℕ → ℕ) → ¬ IsFlatMap web next
+
+-- a drawing without crossings is a flat map of the graph itself
+abbrev pub CrossingFreeIsFlat : Type 0
+CrossingFreeIsFlat =
+    (g : Graph) (ord : ℕ → List ℕ) (next : ℕ → ℕ) → IsDrawing g ord next → crossing_count g ord ≡ 0 → IsFlatMap g next
+
+-- so an evidence of either kind for the graph shows that each drawing has a crossing
+abbrev pub EvidenceOfCrossings : Type 0
+EvidenceOfCrossings =
+    (g : Graph) (branch : List ℕ) (paths : List (List ℕ)) →
+    EvidenceHolds g (Five branch paths) ⊎ EvidenceHolds g (ThreeThree branch paths) → Least g 1
+
+-- neither K5 nor K3,3 has a flat map, and every drawing of theirs has a crossing
+pub record KuratowskiGraphs : Type 0 where
+  pub k5_not_flat : (next : ℕ → ℕ) → ¬ IsFlatMap k5 next
+  pub k33_not_flat : (next : ℕ → ℕ) → ¬ IsFlatMap k33 next
+  pub k5_crosses : Least k5 1
+  pub k33_crosses : Least k33 1
+
+-- the crossing number of K5 is one
+abbrev pub K5HasOneCrossing : Type 0
+K5HasOneCrossing = IsCrossingNumber k5 1

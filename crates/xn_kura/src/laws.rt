@@ -1,0 +1,21 @@
+//! What evidence shows. Each law is the contract of a function with an empty body.
+ghost use Rattle.xn_kura.specs.Laws.{CrossingFreeIsFlat, EvidenceExcludesFlat, EvidenceOfCrossings, FiveExcludesFlat, K5HasOneCrossing, KuratowskiGraphs, ThreeThreeExcludesFlat};
+
+/// A web for which an evidence of either kind holds has no flat map.
+pub fn evidence_excludes_flat_maps()
+    ensures five { FiveExcludesFlat }
+    ensures three_three { ThreeThreeExcludesFlat }
+    ensures either { EvidenceExcludesFlat }
+{}
+
+/// A graph for which an evidence of either kind holds has no drawing without crossings.
+pub fn evidence_shows_crossings()
+    ensures flat { CrossingFreeIsFlat }
+    ensures crossings { EvidenceOfCrossings }
+{}
+
+/// K5 and K3,3 have no flat map, and the crossing number of K5 is one.
+pub fn kuratowski_graphs()
+    ensures not_flat { KuratowskiGraphs }
+    ensures one { K5HasOneCrossing }
+{}

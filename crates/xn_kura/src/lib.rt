@@ -1,0 +1,13 @@
+//! Evidence that a web has no flat map: subdivisions of K5 and of K3,3 (Kuratowski 1930).
+#![tactic(auto)]
+
+mod evidence;
+pub mod laws;
+mod marks;
+mod repeats;
+#[cfg(test)]
+mod tests;
+mod walks;
+
+pub use evidence::holds;
+pub use marks::Marks;
