@@ -1,0 +1,13 @@
+//! Graphs, webs and their counts.
+#![tactic(auto)]
+
+mod counts;
+mod graphs;
+pub mod laws;
+#[cfg(test)]
+mod tests;
+mod webs;
+
+pub use counts::Euler;
+pub use graphs::{Graph, GraphErr, MAX_EDGES, MAX_NODES};
+pub use webs::{MAX_WEB, Web, WebErr};

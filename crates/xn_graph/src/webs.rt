@@ -1,0 +1,110 @@
+ghost use Rattle.std.specs.Prelude.{◌≡◌, ◌^◌, ◌<◌, ◌≤◌, ◌↔◌, IfOk, IsErrOf, IfNone, IfSome, OkIff, length};
+ghost use Rattle.xn_model.specs.Graph.{ends_at};
+ghost use Rattle.xn_graph.specs.Limits.{IsLimitedWeb, HasNodes, graph_of};
+ghost use Rattle.xn_graph.specs.Refusals.{IsRefusedWeb};
+ghost use Rattle.xn_graph.specs.declared.webs.WebErr.{WebErr};
+
+use std::alloc::{AllocError, Global};
+use std::marker::Model;
+use thiserror::Error;
+
+/// The most nodes, and the most segments, of a web.
+pub const MAX_WEB: usize = 1 << 30;
+
+/// Why a number of nodes and a list of ends are no web: the first cause in this order.
+#[derive(Clone, Copy, Debug, PartialEq, Eq, Error)]
+pub enum WebErr {
+    /// There are more than 2^30 nodes or segments.
+    #[error("more than 2^30 nodes or segments")]
+    TooMany,
+    /// This is the first segment with an end that is no node.
+    #[error("an end of segment {0} is no node")]
+    End(u32),
+}
+
+/// A web: nodes 0 to n - 1 and segments between them. It may have loops and parallel segments.
+///
+/// It has at most 2^30 nodes and 2^30 segments.
+#[derive(Debug, Drop)]
+pub struct Web {
+    nodes: u32,
+    ends: Vec<(u32, u32)>,
+}
+
+impl Model for Web {
+    ghost use Rattle.xn_model.specs.Graph.{Graph};
+    ghost use Rattle.xn_graph.specs.Limits.{IsLimitedWeb, graph_of};
+
+    ghost Value = { Graph };
+
+    ghost view = { λ w. graph_of w.nodes w.ends.items };
+
+    ghost invariant = { λ w. IsLimitedWeb (graph_of w.nodes w.ends.items) };
+}
+
+impl Web {
+    /// The web of these nodes and ends.
+    pub fn make(nodes: u32, ends: Vec<(u32, u32)>) -> Result<Web, WebErr>
+        ensures ok { let web = graph_of nodes ends.items in OkIff result (IsLimitedWeb web) web }
+        ensures err { (e : WebErr) → IsErrOf result e ↔ IsRefusedWeb nodes ends.items e }
+    {
+        if nodes as usize > MAX_WEB || ends.len() > MAX_WEB {
+            return Err(WebErr::TooMany);
+        }
+        match first_outside(nodes, ends.as_slice()) {
+            None => Ok(Web { nodes, ends }),
+            Some(s) => Err(WebErr::End(s)),
+        }
+    }
+
+    /// The number of nodes.
+    pub fn nodes(&self) -> u32
+        ensures value { result ≡ self.now.nodes }
+        ensures limited { IsLimitedWeb self.now }
+    {
+        self.nodes
+    }
+
+    /// The number of segments.
+    pub fn segments(&self) -> u32
+        ensures value { result ≡ length self.now.ends }
+        ensures limited { IsLimitedWeb self.now }
+    {
+        self.ends.len() as u32
+    }
+
+    /// The two ends of a segment, in the order in which they were given.
+    pub fn end(&self, s: u32) -> (u32, u32)
+        requires { s < length self.now.ends }
+        ensures value { result ≡ ends_at self.now.ends s }
+        ensures nodes { HasNodes self.now.nodes result }
+    {
+        self.ends[s as usize]
+    }
+
+    /// The same web again.
+    pub fn copy(&self, alloc: Global) -> Result<Web, AllocError>
+        ensures { IfOk result (λ w. w ≡ self.now) }
+    {
+        let ends = Vec::from_slice(alloc, self.ends.as_slice())?;
+        Ok(Web {
+            nodes: self.nodes,
+            ends,
+        })
+    }
+}
+
+/// The first segment with an end that is no node.
+fn first_outside(nodes: u32, ends: &[(u32, u32)]) -> Option<u32>
+    requires nodes { nodes ≤ 2 ^ 30 }
+    requires segments { length ends.now ≤ 2 ^ 30 }
+    ensures none { IfNone result (IsLimitedWeb (graph_of nodes ends.now)) }
+    ensures some { IfSome result (λ s. IsRefusedWeb nodes ends.now (WebErr.End s)) }
+{
+    for (s, &(u, v)) in ends.iter().enumerate() {
+        if u >= nodes || v >= nodes {
+            return Some(s as u32);
+        }
+    }
+    None
+}

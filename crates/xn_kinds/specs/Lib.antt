@@ -1,0 +1,4 @@
+pub mod Bound
+pub mod Row
+pub mod State
+pub mod Tree

@@ -1,0 +1,14 @@
+//! Plain types: drawings, rows with their evidence, proof trees, and what can be wrong with them.
+#![tactic(auto)]
+
+mod drawings;
+mod flaws;
+mod rows;
+#[cfg(test)]
+mod tests;
+mod trees;
+
+pub use drawings::{Drawing, Orders};
+pub use flaws::{DrawFlaw, EvidenceFlaw, Flaw, FlawKind, RowFlaw};
+pub use rows::{Evidence, Paths, Row};
+pub use trees::{Node, Tree, Var};
