@@ -1,3 +1,4 @@
+pub mod ComponentLaws
 pub mod Decide
 pub mod Drawing
 pub mod Evidence

@@ -1,4 +1,5 @@
 //! Laws that show that the definitions mean what they should. Each is the contract of a function with an empty body.
+ghost use Rattle.xn_model.specs.ComponentLaws.{ComponentsAreByWalks, LabelsAreByWalks};
 ghost use Rattle.xn_model.specs.Examples.{K4IsFlat, K4OnTorus, K5WithOneCrossing, PairsOfK33, TwoLoneNodes};
 ghost use Rattle.xn_model.specs.Laws.{LeastFalls, AtMostRises, BoundsMeet, OneCrossingNumber};
 
@@ -17,4 +18,10 @@ pub fn worked_examples()
     ensures k5 { K5WithOneCrossing }
     ensures k33 { PairsOfK33 }
     ensures lone { TwoLoneNodes }
+{}
+
+/// The labels of components, and so their number, are those by walks of segments.
+pub fn components_by_walks()
+    ensures labels { LabelsAreByWalks }
+    ensures count { ComponentsAreByWalks }
 {}

@@ -1,0 +1,62 @@
+-- How many numbers below a bound pass a test.
+use Rattle.std.proofs.Common.{◌≡◌, ℕ, zero, suc, ◌+◌, ◌<◌, ◌≤◌, Bool, true, false, cond, List, [], ◌∷◌, ◌++◌, get_or, inl, inr, length, take, refl, sym, ◌∙◌, ap, arith}
+use Rattle.std.specs.List.{count_by, range_with_len}
+use Rattle.std.proofs.lemmas.List.Sums.{count_by_more_no, count_by_more_yes, sum_by-append}
+use Rattle.std.proofs.lemmas.Bool.{cases_Bool}
+use Rattle.std.proofs.Math.Seq.{take-length}
+use Rattle.xn_model.specs.Lists.{one_if}
+use Rattle.xn_model.specs.Permutation.{count_below}
+
+pub count_below-le : (n : ℕ) (p : ℕ → Bool) → count_below n p ≤ n
+count_below-le zero p = omega arith
+count_below-le (suc n) p =
+    let one : one_if (p n) ≤ 1 = elim (p n) as (λ b. one_if b ≤ 1) [ true ↦ omega arith | false ↦ omega arith ] in
+    omega (arith, count_below-le n p)
+
+pub count_below-yes : (d : ℕ) (p : ℕ → Bool) → p d ≡ true → count_below (d + 1) p ≡ count_below d p + 1
+count_below-yes d p passes =
+    let e : d + 1 ≡ suc d = omega arith in
+    let one : one_if (p d) ≡ 1 = ap one_if passes in
+    ap (λ n. count_below n p) e ∙ ap (λ x. count_below d p + x) one
+
+pub count_below-no : (d : ℕ) (p : ℕ → Bool) → p d ≡ false → count_below (d + 1) p ≡ count_below d p
+count_below-no d p fails =
+    let e : d + 1 ≡ suc d = omega arith in
+    let none : one_if (p d) ≡ 0 = ap one_if fails in
+    ap (λ n. count_below n p) e ∙ ap (λ x. count_below d p + x) none ∙ omega arith
+
+-- one more number at the end
+range_with_len-suc : (a n : ℕ) → range_with_len a (suc n) ≡ range_with_len a n ++ (a + n) ∷ []
+range_with_len-suc a zero = let e : a ≡ a + 0 = omega arith in ap (λ x. x ∷ []) e
+range_with_len-suc a (suc n) =
+    let e : (a + 1) + n ≡ a + suc n = omega arith in
+    ap (λ xs. a ∷ xs) (range_with_len-suc (a + 1) n ∙ ap (λ x. range_with_len (a + 1) n ++ x ∷ []) e)
+
+-- counted along the list of the numbers
+pub count_by-range : (n : ℕ) (p : ℕ → Bool) → count_by p (range_with_len 0 n) ≡ count_below n p
+count_by-range zero p = refl
+count_by-range (suc n) p =
+    let e : 0 + n ≡ n = omega arith in
+    let one : cond (p n) 1 0 + 0 ≡ one_if (p n) = elim (p n) as (λ b. cond b 1 0 + 0 ≡ one_if b) [ true ↦ omega arith | false ↦ omega arith ] in
+    ap (count_by p) (range_with_len-suc 0 n ∙ ap (λ x. range_with_len 0 n ++ x ∷ []) e)
+    ∙ sum_by-append (λ x. cond (p x) 1 0) (range_with_len 0 n) (n ∷ []) ∙ omega (arith, count_by-range n p, one)
+
+-- counted along a list, place by place
+count_by-take : {X : Type 0} (p : X → Bool) → (xs : List X) (d : X) (i : ℕ) → i ≤ length xs → count_by p (take i xs) ≡ count_below i (λ j. p (get_or xs j d))
+count_by-take p xs d zero inside = refl
+count_by-take p xs d (suc i) inside =
+    let e : suc i ≡ i + 1 = omega arith in
+    let before = count_by-take p xs d i (omega arith) in
+    let i_in : i < length xs = omega arith in
+    elim (cases_Bool (p (get_or xs i d))) [
+      | inl passes ↦
+          let one : one_if (p (get_or xs i d)) ≡ 1 = ap one_if passes in
+          ap (λ k. count_by p (take k xs)) e ∙ count_by_more_yes p xs i d i_in passes ∙ omega (arith, before, one)
+      | inr fails ↦
+          let none : one_if (p (get_or xs i d)) ≡ 0 = ap one_if fails in
+          ap (λ k. count_by p (take k xs)) e ∙ count_by_more_no p xs i d i_in fails ∙ omega (arith, before, none)
+    ]
+
+pub count_by-count_below : {X : Type 0} (p : X → Bool) → (xs : List X) (d : X) → count_by p xs ≡ count_below (length xs) (λ j. p (get_or xs j d))
+count_by-count_below p xs d =
+    ap (count_by p) (sym (take-length xs)) ∙ count_by-take p xs d (length xs) (omega arith)

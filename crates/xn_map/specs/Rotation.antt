@@ -1,0 +1,42 @@
+-- Where a list of successors is first no rotation.
+use Rattle.std.specs.Prelude.{◌≡◌, ◌≢◌, ℕ, ◌*◌, ◌<◌, ◌≤◌, ◌⊎◌, ◌↔◌, Bool, true, List, length}
+use Rattle.xn_model.specs.Map.{tail_of}
+use Rattle.xn_model.specs.Permutation.{Reaches}
+use Rattle.xn_map.specs.Marks.{is_marked}
+
+-- n is the first number of which P is true
+pub record IsFirst (P : ℕ → Type 0) (n : ℕ) : Type 0 where
+  pub here : P n
+  pub before : (m : ℕ) → m < n → ¬ (P m)
+
+-- next leads d out of range, to another node, or where it leads a smaller dart
+abbrev pub LeadsWrong : List (ℕ × ℕ) → (ℕ → ℕ) → ℕ → Type 0
+LeadsWrong ends next d =
+    (2 * length ends ≤ next d) ⊎ ((tail_of ends (next d) ≢ tail_of ends d) ⊎ ((e : ℕ) × (e < d) × (next e ≡ next d)))
+
+-- next leads no dart wrong
+abbrev pub LeadsRight : List (ℕ × ℕ) → (ℕ → ℕ) → Type 0
+LeadsRight ends next = (d : ℕ) → d < 2 * length ends → ¬ (LeadsWrong ends next d)
+
+-- d isn't in the ring of the least dart at its node
+abbrev pub IsApart : List (ℕ × ℕ) → (ℕ → ℕ) → ℕ → Type 0
+IsApart ends next d = (c : ℕ) × IsFirst (λ e. tail_of ends e ≡ tail_of ends d) c × ¬ (Reaches next c d)
+
+-- the darts at each node are in one ring
+abbrev pub AreTogether : List (ℕ × ℕ) → (ℕ → ℕ) → Type 0
+AreTogether ends next = (d : ℕ) → d < 2 * length ends → ¬ (IsApart ends next d)
+
+-- d is the first dart that next leads wrong; if it leads none wrong, the first that is apart
+abbrev pub IsRotationFlaw : List (ℕ × ℕ) → (ℕ → ℕ) → ℕ → Type 0
+IsRotationFlaw ends next d =
+    (d < 2 * length ends) × (IsFirst (LeadsWrong ends next) d ⊎ (LeadsRight ends next × IsFirst (IsApart ends next) d))
+
+-- exactly the darts to which next leads a dart below d are marked
+abbrev pub MarksTargets : ℕ → (ℕ → ℕ) → ℕ → List Bool → Type 0
+MarksTargets n next d marks =
+    (x : ℕ) → x < n → (is_marked marks x ≡ true) ↔ ((e : ℕ) × (e < d) × (next e ≡ x))
+
+-- exactly the nodes of the darts below d are marked
+abbrev pub MarksTails : List (ℕ × ℕ) → ℕ → List Bool → Type 0
+MarksTails ends d marks =
+    (v : ℕ) → v < length marks → (is_marked marks v ≡ true) ↔ ((e : ℕ) × (e < d) × (tail_of ends e ≡ v))

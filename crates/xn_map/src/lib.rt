@@ -1,0 +1,13 @@
+//! Maps: webs with a rotation at each node, their faces and components, and Euler's counts.
+#![tactic(auto)]
+
+mod components;
+mod corners;
+mod darts;
+mod faces;
+mod lone;
+mod maps;
+mod rotation;
+
+pub use corners::Corner;
+pub use maps::{Map, MapErr};
