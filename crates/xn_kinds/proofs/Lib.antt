@@ -1,0 +1,6 @@
+mod Children
+mod Examples
+mod Given
+mod Listed
+mod States
+mod Stands

@@ -3,6 +3,7 @@
 
 mod drawings;
 mod flaws;
+pub mod laws;
 mod rows;
 #[cfg(test)]
 mod tests;

@@ -7,7 +7,7 @@ use Rattle.xn_model.specs.Map.{IsMap, tail_of}
 use Rattle.xn_model.specs.Permutation.{Permutes, Reaches, iterate}
 use Rattle.xn_ring.proofs.Orbits.{cases_reaches, first_below, reaches_back, reaches_trans}
 use Rattle.xn_map.specs.Marks.{MarksCycle, MarksCyclesBelow, is_marked}
-use Rattle.xn_map.specs.Rotation.{AreTogether, IsApart, IsFirst, IsRotationFlaw, LeadsRight, LeadsWrong, MarksTargets, MarksTails}
+use Rattle.xn_map.specs.Rotation.{AreTogether, FlawsAreNoMaps, IsApart, IsFirst, IsRotationFlaw, LeadsRight, LeadsWrong, MarksTargets, MarksTails}
 use Rattle.xn_map.proofs.Marking.{cycle_marked, is_marked-set, marked_before}
 
 -- one more target
@@ -202,3 +202,19 @@ pub flaw_or_map : (nodes : ℕ) (ends : List (ℕ × ℕ)) (next : ℕ → ℕ) 
     MatchOption flaw (AreTogether ends next) (λ d. (d < n) × IsFirst (IsApart ends next) d) → MatchOption flaw (IsMap nodes ends next) (IsRotationFlaw ends next)
 flaw_or_map nodes ends next n None darts ends_in right together = IsMap-from_right nodes ends next ends_in right together
 flaw_or_map nodes ends next n (Some d) darts ends_in right apart = (omega (arith, apart.0, darts), inr (right, apart.1))
+
+pub flaws_are_no_maps : FlawsAreNoMaps
+flaws_are_no_maps nodes ends next d flaw map = elim flaw.1 [
+  | inl wrong ↦ elim wrong.here [
+    | inl far ↦ omega (arith, far, map.permutes.below d flaw.0)
+    | inr (inl away) ↦ away (map.stays d flaw.0)
+    | inr (inr taken) ↦
+        let same = map.permutes.apart taken.0 d (omega (arith, taken.1, flaw.0)) flaw.0 taken.2 in
+        omega (arith, same, taken.1)
+  ]
+  | inr apart ↦
+      let c = apart.1.here.0 in
+      let first = apart.1.here.1 in
+      let c_in : c < 2 * length ends = elim (cases_lt d c) [ inl high ↦ absurd (first.before d high refl) | inr low ↦ omega (arith, low, flaw.0) ] in
+      apart.1.here.2 (map.round c d c_in flaw.0 first.here)
+]

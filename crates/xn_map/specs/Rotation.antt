@@ -1,6 +1,6 @@
 -- Where a list of successors is first no rotation.
 use Rattle.std.specs.Prelude.{◌≡◌, ◌≢◌, ℕ, ◌*◌, ◌<◌, ◌≤◌, ◌⊎◌, ◌↔◌, Bool, true, List, length}
-use Rattle.xn_model.specs.Map.{tail_of}
+use Rattle.xn_model.specs.Map.{IsMap, tail_of}
 use Rattle.xn_model.specs.Permutation.{Reaches}
 use Rattle.xn_map.specs.Marks.{is_marked}
 
@@ -40,3 +40,7 @@ MarksTargets n next d marks =
 abbrev pub MarksTails : List (ℕ × ℕ) → ℕ → List Bool → Type 0
 MarksTails ends d marks =
     (v : ℕ) → v < length marks → (is_marked marks v ≡ true) ↔ ((e : ℕ) × (e < d) × (tail_of ends e ≡ v))
+
+-- where there is a flaw there is no map
+abbrev pub FlawsAreNoMaps : Type 0
+FlawsAreNoMaps = (nodes : ℕ) (ends : List (ℕ × ℕ)) (next : ℕ → ℕ) (d : ℕ) → IsRotationFlaw ends next d → ¬ (IsMap nodes ends next)

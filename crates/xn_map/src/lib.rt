@@ -5,9 +5,13 @@ mod components;
 mod corners;
 mod darts;
 mod faces;
+pub mod laws;
 mod lone;
 mod maps;
 mod rotation;
 
 pub use corners::Corner;
 pub use maps::{Map, MapErr};
+
+#[cfg(test)]
+mod tests;

@@ -1,0 +1,10 @@
+//! The text of answers. So far plain answers: the answer to a graph that is drawn without crossings.
+#![tactic(auto)]
+
+mod flaw;
+pub mod laws;
+mod lines;
+mod plain;
+
+pub use flaw::AnswerErr;
+pub use plain::{Front, read_front, read_tail};
