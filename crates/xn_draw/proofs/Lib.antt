@@ -1,6 +1,10 @@
 pub mod CrossingLists
+pub mod EntryLists
+pub mod FirstFlaws
 pub mod Limits
 pub mod Listed
 pub mod Numbered
+pub mod OrdersFound
 pub mod PairOrder
 pub mod Rising
+pub mod Totals

@@ -2,6 +2,13 @@
 #![tactic(auto)]
 
 mod crossings;
+mod entries;
+mod examining;
+mod lengths;
 mod planar;
+mod results;
+mod touches;
 
+pub use examining::examine;
 pub use planar::planarise;
+pub use results::{DrawErr, Seen};

@@ -4,6 +4,7 @@ ghost use Rattle.std.specs.List.{flat_map};
 ghost use Rattle.xn_model.specs.Graph.{ends_at};
 ghost use Rattle.xn_model.specs.Orders.{IsOrders, crossings_of, order_at};
 ghost use Rattle.xn_model.specs.Web.{crossing_node, segments_of, segments_through, web_of};
+ghost use Rattle.xn_graph.specs.Limits.{IsLimitedWeb};
 ghost use Rattle.xn_draw.specs.Crossed.{crosses_in};
 ghost use Rattle.xn_draw.specs.Pairs.{PairsRise};
 
@@ -24,7 +25,8 @@ pub fn planarise(
 ) -> Result<Web, AllocError>
     requires lists { length orders.now ≡ length edges.now }
     requires orders { IsOrders graph.now.ends edges.now (order_at edges.now orders.now) }
-    ensures { IfOk result (λ web. web ≡ web_of graph.now edges.now (order_at edges.now orders.now)) }
+    ensures web { IfOk result (λ web. web ≡ web_of graph.now edges.now (order_at edges.now orders.now)) }
+    ensures limited { IfOk result IsLimitedWeb }
 {
     let pairs = crossings(alloc, edges, orders)?;
     let nodes = graph.nodes() + pairs.len() as u32;
