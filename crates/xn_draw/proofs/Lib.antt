@@ -1,5 +1,7 @@
 pub mod CrossingLists
+pub mod Decided
 pub mod EntryLists
+pub mod Excluded
 pub mod FirstFlaws
 pub mod Limits
 pub mod Listed

@@ -9,7 +9,7 @@ use Rattle.std.proofs.lemmas.List.Sums.{length-filter, count_by-le-length}
 use Rattle.std.proofs.lemmas.Map.Keys.{sorted_from_strictly_increasing}
 use Rattle.std.proofs.lemmas.Map.Steps.{length-le_from_distinct_below}
 use Rattle.std.proofs.lemmas.Map.Views.{length-le_from_below}
-use Rattle.xn_model.specs.Graph.{Graph, EndsIn, each_two, ends_at}
+use Rattle.xn_model.specs.Graph.{Graph, EndsIn, IsGraph, each_two, ends_at}
 use Rattle.xn_model.specs.Lists.{has}
 use Rattle.xn_model.specs.Orders.{IsEdgeList, IsOrders, crossings_of}
 use Rattle.xn_model.specs.Web.{crossing_node, crossing_number_in, segments_of, segments_through, web_of}
@@ -92,6 +92,23 @@ nodes_below n nodes pairs e (f ∷ fs) room crosses = (
   nodes_below n nodes pairs e fs room (λ g h. crosses g (or_right (eqb f g) (has fs g) h)),
 )
 
+module _ (g : Graph) (edges : List ℕ) (ord : ℕ → List ℕ) (is_graph : IsGraph g) (orders : IsOrders g.ends edges ord) where
+  ends_of : (es : List ℕ) → AllByRecursion (λ e. e < length g.ends) es → EndsIn (g.nodes + length (crossings_of edges ord)) (flat_map (segments_of g (crossings_of edges ord) ord) es)
+  ends_of [] below = tt
+  ends_of (e ∷ es) below =
+      let pairs = crossings_of edges ord in
+      let n = g.nodes + length pairs in
+      let ends = EndsIn-at g.nodes g.ends is_graph.ends_in e below.0 in
+      let first : (ends_at g.ends e).0 < n = omega (arith, ends.0) in
+      let second : (ends_at g.ends e).1 < n = omega (arith, ends.1) in
+      let between = nodes_below n g.nodes pairs e (ord e) (omega arith) (crosses_in-entry g.ends edges ord orders e) in
+      let through = EndsIn-through n (ends_at g.ends e).0 (map (crossing_node g.nodes pairs e) (ord e)) (ends_at g.ends e).1 first between second in
+      EndsIn-append n (segments_of g pairs ord e) (flat_map (segments_of g pairs ord) es) through (ends_of es below.1)
+
+  -- the ends of the segments are nodes of the web
+  pub web_ends : EndsIn (web_of g edges ord).nodes (web_of g edges ord).ends
+  web_ends = ends_of edges (recursion_from_All (λ e. e < length g.ends) edges orders.edge_list.below)
+
 module _ (g : Graph) (edges : List ℕ) (ord : ℕ → List ℕ) (limited : IsLimitedGraph g) (orders : IsOrders g.ends edges ord) where
   crosser_below : (e f : ℕ) → has (ord e) f ≡ true → f < length g.ends
   crosser_below e f crosses =
@@ -106,24 +123,12 @@ module _ (g : Graph) (edges : List ℕ) (ord : ℕ → List ℕ) (limited : IsLi
       let f = segments_of g (crossings_of edges ord) ord in
       length-flat_map-le f 1001 (λ e. omega (arith, length-segments_of g (crossings_of edges ord) ord e, crossers_few e, limited.few_edges)) edges
 
-  ends_of : (es : List ℕ) → AllByRecursion (λ e. e < length g.ends) es → EndsIn (g.nodes + length (crossings_of edges ord)) (flat_map (segments_of g (crossings_of edges ord) ord) es)
-  ends_of [] below = tt
-  ends_of (e ∷ es) below =
-      let pairs = crossings_of edges ord in
-      let n = g.nodes + length pairs in
-      let ends = EndsIn-at g.nodes g.ends limited.is_graph.ends_in e below.0 in
-      let first : (ends_at g.ends e).0 < n = omega (arith, ends.0) in
-      let second : (ends_at g.ends e).1 < n = omega (arith, ends.1) in
-      let between = nodes_below n g.nodes pairs e (ord e) (omega arith) (crosses_in-entry g.ends edges ord orders e) in
-      let through = EndsIn-through n (ends_at g.ends e).0 (map (crossing_node g.nodes pairs e) (ord e)) (ends_at g.ends e).1 first between second in
-      EndsIn-append n (segments_of g pairs ord e) (flat_map (segments_of g pairs ord) es) through (ends_of es below.1)
-
   pub few_crossings : length (crossings_of edges ord) ≤ 499500
   few_crossings = crossings_few edges ord (omega (arith, edges_few (length g.ends) edges orders.edge_list, limited.few_edges))
 
   pub web_limited : IsLimitedWeb (web_of g edges ord)
   web_limited = record {
-    ends_in = ends_of edges (recursion_from_All (λ e. e < length g.ends) edges orders.edge_list.below);
+    ends_in = web_ends g edges ord limited.is_graph orders;
     few_nodes = omega (arith, few_crossings, limited.few_nodes);
     few_segments = omega (arith, segments_few, edges_few (length g.ends) edges orders.edge_list, limited.few_edges);
   }

@@ -63,6 +63,11 @@ IsFlaw g lists next (Touch e f) = HasMap g lists next × IsFirstTouch g lists ne
 IsFlaw g lists next (Genus counts) =
     HasCrossings g lists next × (counts ≡ euler_of (drawn_web g lists) (at next)) × ¬ (IsBalanced counts)
 
+-- lists and turns are a drawing, or have a flaw
+abbrev pub DrawnOrFlawed : Type 0
+DrawnOrFlawed =
+    (g : Graph) (lists : List (List ℕ)) (next : List ℕ) → IsGraph g → IsListedDrawing g lists next ⊎ ((x : DrawFlaw) × IsFlaw g lists next x)
+
 -- lists and turns are a drawing exactly where they have no flaw
 abbrev pub DrawnWhereFlawless : Type 0
 DrawnWhereFlawless =

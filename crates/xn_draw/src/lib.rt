@@ -4,9 +4,12 @@
 mod crossings;
 mod entries;
 mod examining;
+pub mod laws;
 mod lengths;
 mod planar;
 mod results;
+#[cfg(test)]
+mod tests;
 mod touches;
 
 pub use examining::examine;
