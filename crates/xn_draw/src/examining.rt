@@ -35,8 +35,8 @@ pub fn examine(alloc: Global, graph: &Graph, drawing: &Drawing) -> Result<Seen, 
     Ok(Seen { crossings, euler })
 }
 
-// Whether the lists are orders, of the right number, and the turns too.
-fn check_lists(alloc: Global, graph: &Graph, drawing: &Drawing) -> Result<(), DrawErr>
+/// Whether the lists are orders, and lists and turns of the right number.
+pub fn check_lists(alloc: Global, graph: &Graph, drawing: &Drawing) -> Result<(), DrawErr>
     ensures { let d = drawing.now in
         MatchResult result (λ _. HasOrders graph.now d.orders d.next) (IsCause graph.now d.orders d.next) }
 {
@@ -71,8 +71,8 @@ fn map_of(alloc: Global, graph: &Graph, drawing: &Drawing) -> Result<Map, DrawEr
     }
 }
 
-// The numbers of the edges.
-fn all_edges(alloc: Global, graph: &Graph) -> Result<Vec<u32>, AllocError>
+/// The numbers of the edges.
+pub fn all_edges(alloc: Global, graph: &Graph) -> Result<Vec<u32>, AllocError>
     ensures { IfOk result (λ edges. edges.items ≡ edges_of graph.now) }
 {
     (0..graph.edges()).collect(alloc)
