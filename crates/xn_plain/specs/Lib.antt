@@ -1,3 +1,5 @@
 pub mod Known
 pub mod Leaf
 pub mod Bound
+pub mod Insertions
+pub mod Growth

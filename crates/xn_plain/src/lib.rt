@@ -3,9 +3,13 @@
 #![tactic(auto)]
 
 mod bounds;
+mod extensions;
+mod insertions;
 mod known;
 mod leaves;
 
 pub use bounds::bound_by_search;
+pub use extensions::extends_by_search;
+pub use insertions::{in_one_face, is_corner, is_old, tail, with_dart};
 pub use known::{Given, Known, literal, value_of};
 pub use leaves::Leaf;
