@@ -3,3 +3,4 @@ pub mod Leaf
 pub mod Bound
 pub mod Insertions
 pub mod Growth
+pub mod Drawings

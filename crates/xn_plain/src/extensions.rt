@@ -1,10 +1,10 @@
 ghost use Rattle.std.specs.Prelude.{◌≡◌, ℕ, ◌*◌, ◌/◌, ◌<◌, ◌↔◌, ◌∷◌, IfOk, IsTrue, length};
-ghost use Rattle.std.specs.List.{range_with_len};
 ghost use Rattle.xn_model.specs.Insertion.{GrowsFromFirst, IsCorner, ReachesEnd};
 ghost use Rattle.xn_model.specs.Lists.{at};
 ghost use Rattle.xn_plain.specs.Growth.{CanCut, CanCutFrom, CanExtend, CanHang, IsGrowing};
 
 use crate::insertions::{in_one_face, is_corner, is_old, tail, with_dart};
+use crate::lists::numbers;
 use std::alloc::{AllocError, Global};
 use xn_graph::Web;
 
@@ -22,13 +22,6 @@ pub fn extends_by_search(alloc: Global, web: &Web, list: &[u32]) -> Result<bool,
             extends(alloc, web, &[*segment], later, &next)
         }
     }
-}
-
-// The numbers below n.
-fn numbers(alloc: Global, n: u32) -> Result<Vec<u32>, AllocError>
-    ensures { IfOk result (λ v. v.items ≡ range_with_len 0 n) }
-{
-    (0..n).collect(alloc)
 }
 
 // A segment that is to go into a map.

@@ -6,7 +6,7 @@ ghost use Rattle.xn_model.specs.Map.{face_step, tail_of};
 ghost use Rattle.xn_model.specs.Permutation.{Reaches};
 ghost use Rattle.xn_plain.specs.Insertions.{AreSegments, IsListing};
 
-use crate::known::has;
+use crate::lists::has;
 use std::alloc::{AllocError, Global};
 use xn_graph::Web;
 

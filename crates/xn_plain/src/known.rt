@@ -1,9 +1,9 @@
 // What is known of the values of a drawing: what a state gives, and what the search tries beyond it.
 ghost use Rattle.std.specs.Prelude.{◌≡◌, ◌≤◌, IfOk, [], slice_index_or};
-ghost use Rattle.xn_model.specs.Lists.{has, position_in};
 ghost use Rattle.xn_kinds.specs.Row.{literal};
 ghost use Rattle.xn_plain.specs.Known.{Evaluates, decided_in, is_same, known_of, order_in, state_of, given_by, tried_in, value_at};
 
+use crate::lists::{has, position_in};
 use xn_kinds::Var;
 use xn_list::{Lists, Sequence};
 
@@ -35,25 +35,6 @@ fn decided_in(decided: &[(u32, u32, bool)], e: u32, f: u32) -> Option<bool>
         }
     }
     None
-}
-
-// Whether x stands in the list.
-pub fn has(list: &[u32], x: u32) -> bool
-    ensures { result ≡ has list.now x }
-{
-    list.iter().any(|y| *y == x)
-}
-
-// The first position of x, or the length.
-fn position_in(list: &[u32], x: u32) -> usize
-    ensures { result ≡ position_in list.now x }
-{
-    for (i, y) in list.iter().enumerate() {
-        if *y == x {
-            return i;
-        }
-    }
-    list.len()
 }
 
 // Whether f stands before g, if both stand in the list.

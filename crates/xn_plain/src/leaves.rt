@@ -7,7 +7,8 @@ ghost use Rattle.xn_kinds.specs.Row.{literal, orders_of, pairs_value, turns_valu
 ghost use Rattle.xn_plain.specs.Known.{Evaluates, known_of};
 ghost use Rattle.xn_plain.specs.Leaf.{AreEdges, IsSmallLeaf, IsSmallPart, IsSmallRow, independent_part, pair_part, turns_along};
 
-use crate::known::{Known, has, literal, value_of};
+use crate::known::{Known, literal, value_of};
+use crate::lists::has;
 use xn_graph::Graph;
 use xn_kinds::{Row, Var};
 

@@ -3,12 +3,17 @@
 #![tactic(auto)]
 
 mod bounds;
+mod drawings;
 mod extensions;
 mod insertions;
 mod known;
 mod leaves;
+mod lists;
+mod orders;
+mod webs;
 
 pub use bounds::bound_by_search;
+pub use drawings::is_listed_drawing;
 pub use extensions::extends_by_search;
 pub use insertions::{in_one_face, is_corner, is_old, tail, with_dart};
 pub use known::{Given, Known, literal, value_of};
