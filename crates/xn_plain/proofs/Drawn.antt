@@ -1,8 +1,10 @@
 -- The tests of orders and crossings say what a drawing is.
-use Rattle.std.proofs.Common.{◌≡◌, ℕ, ◌+◌, ◌<◌, inl, inr, Bool, true, false, not, ◌&&◌, ◌||◌, eqb, List, [], ◌∷◌, length, refl, sym, ap, ◌∙◌, subst, arith}
-use Rattle.std.specs.List.{AllByRecursion, IsDistinct, flat_map, list_all, range_with_len}
+use Rattle.std.proofs.Common.{◌≡◌, ℕ, ◌+◌, ◌<◌, inl, inr, Bool, true, false, not, ◌&&◌, ◌||◌, eqb, List, [], ◌∷◌, length, refl, sym, ap, ◌∙◌, subst, arith, get_or, ◌≤◌}
+use Rattle.std.specs.List.{AllByRecursion, IsDistinct, flat_map, list_all, list_any, range_with_len}
 use Rattle.std.specs.Prelude.{nat_eq, nat_lt}
 use Rattle.std.proofs.lemmas.Bool.{and_parts, and_from, both_ways, cases_Bool, cases_eq, cases_lt, eq-eqb, eqb-true, le-ltb, lt-ltb, ne_eqb, or_cases}
+use Rattle.std.proofs.lemmas.List.{get_or_default}
+use Rattle.std.proofs.lemmas.Map.Steps.{length-le_from_distinct_below}
 use Rattle.xn_model.specs.Drawing.{CrossesAt, IsListedDrawing, order_of}
 use Rattle.xn_model.specs.Graph.{Graph, edges_of, independent}
 use Rattle.xn_model.specs.Lists.{at, has}
@@ -10,7 +12,8 @@ use Rattle.xn_model.specs.Orders.{IsOrders, crossings_of}
 use Rattle.xn_model.specs.Web.{segments_of, web_of}
 use Rattle.xn_graph.specs.Limits.{graph_of}
 use Rattle.xn_model.proofs.Ranges.{edge_list, has-range_past, order_at_outside}
-use Rattle.xn_plain.specs.Drawings.{AllCross, AreOrders, IsListedFlatMap, crosses_at, is_distinct, is_entry}
+use Rattle.xn_plain.proofs.OrdersAt.{order_of-at}
+use Rattle.xn_plain.specs.Drawings.{AllCross, AreOrders, AreShort, IsListedFlatMap, crosses_at, is_distinct, is_entry}
 
 -- ---- words on lists
 
@@ -165,3 +168,24 @@ web_is g ord edges pairs ends n edges_are pairs_are ends_are n_is =
 
 pub flat_same : (web other : Graph) (next turns : List ℕ) → web ≡ other → next ≡ turns → IsListedFlatMap web next → IsListedFlatMap other turns
 flat_same web other next turns webs lists flat = subst (IsListedFlatMap other) lists (subst (λ w. IsListedFlatMap w next) webs flat)
+
+-- ---- the length of a list
+
+has_of_any : (q : ℕ) (xs : List ℕ) → list_any (eqb q) xs ≡ true → has xs q ≡ true
+has_of_any q [] h = h
+has_of_any q (x ∷ xs) h = elim (or_cases (eqb q x) (list_any (eqb q) xs) h) [
+  | inl here ↦ let same : eqb x q ≡ true = eqb-flip x q ∙ here in rw same refl
+  | inr later ↦ has-later x q xs (has_of_any q xs later)
+]
+
+-- no list of a drawing of a graph of at most 1,000 edges has more entries
+pub short_of_drawing : (g : Graph) (lists : List (List ℕ)) (next : List ℕ) → length g.ends ≤ 1000 → IsListedDrawing g lists next → AreShort lists
+short_of_drawing g lists next few drawn i d low =
+    let n = length g.ends in
+    let orders = drawn.drawing.orders in
+    let edge : i < n = omega (arith, low, drawn.lists_fit) in
+    let list = order_of g lists i in
+    let is : get_or lists i d ≡ list = get_or_default lists i d [] low ∙ sym (order_of-at n lists i edge) in
+    let below : (q : ℕ) → list_any (eqb q) list ≡ true → q < n = λ q h. low_edge g lists q i (orders.both_ways i q (has_of_any q list h)) in
+    let long = length-le_from_distinct_below list n (orders.no_repeats i) below in
+    omega (arith, long, few, ap length is)

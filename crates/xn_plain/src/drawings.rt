@@ -7,7 +7,7 @@ ghost use Rattle.xn_graph.specs.Limits.{graph_of};
 ghost use Rattle.xn_plain.specs.Drawings.{AllCross, AreShort, IsListedFlatMap, cross_along, crosses_at};
 
 use crate::lists::{at, numbers, position_in};
-use crate::orders::{are_orders, order};
+use crate::orders::{are_orders, are_short, order};
 use crate::webs::{crossings, segments};
 use std::alloc::{AllocError, Global};
 use xn_graph::{Graph, Web};
@@ -20,10 +20,12 @@ pub fn is_listed_drawing(
     graph: &Graph,
     drawing: &Drawing,
 ) -> Result<bool, AllocError>
-    requires { AreShort drawing.now.orders }
     ensures { IfOk result (λ yes. IsTrue yes ↔ IsListedDrawing graph.now drawing.now.orders drawing.now.next) }
 {
     let edges = all_edges(alloc, graph)?;
+    if !are_short(&drawing.orders) {
+        return Ok(false);
+    }
     is_drawing(alloc, graph, drawing, &edges)
 }
 

@@ -10,6 +10,8 @@ mod known;
 mod leaves;
 mod lists;
 mod orders;
+#[cfg(test)]
+mod tests;
 mod webs;
 
 pub use bounds::bound_by_search;

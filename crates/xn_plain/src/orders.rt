@@ -20,6 +20,18 @@ fn is_distinct(list: &[u32]) -> bool
     true
 }
 
+/// Whether no list is longer than a graph has edges.
+pub fn are_short(orders: &Orders) -> bool
+    ensures { IsTrue result ↔ AreShort orders.now }
+{
+    for i in 0..orders.len() {
+        if orders.at(i).len() > 1000 {
+            return false;
+        }
+    }
+    true
+}
+
 /// The list of an edge.
 pub fn order<'a>(graph: &Graph, orders: &'a Orders, e: u32) -> &'a [u32]
     requires edge { e < length graph.now.ends }
