@@ -1,0 +1,78 @@
+use super::*;
+use std::alloc::{AllocError, Global};
+use std::test::Fail;
+use xn_graph::{Graph, Web};
+use xn_kinds::{Drawing, Orders};
+use xn_list::Sequence;
+
+/// The edges of K5.
+const K5: [(u32, u32); 10] = [
+    (0, 1),
+    (0, 2),
+    (0, 3),
+    (0, 4),
+    (1, 2),
+    (1, 3),
+    (1, 4),
+    (2, 3),
+    (2, 4),
+    (3, 4),
+];
+
+/// The orders in which just these two of count edges cross.
+fn one_crossing(alloc: Global, count: u32, e: u32, f: u32) -> Result<Orders, AllocError> {
+    let mut lists = Vec::new(alloc);
+    for x in 0..count {
+        let crosser = if x == e {
+            [f].as_slice().to_vec(alloc)?
+        } else if x == f {
+            [e].as_slice().to_vec(alloc)?
+        } else {
+            Vec::new(alloc)
+        };
+        lists.push(crosser)?;
+    }
+    Ok(Orders::new(lists))
+}
+
+#[test]
+fn drawings_are_told_from_others(rt: HostRuntime) -> Result<(), Fail> {
+    let graph = Graph::make(5, K5.to_vec(rt.alloc())?)?;
+    let turns = [
+        6, 22, 21, 14, 8, 16, 4, 20, 0, 19, 12, 18, 3, 17, 10, 23, 11, 7, 5, 15, 13, 1, 2, 9,
+    ];
+    let touching = [
+        6, 21, 1, 14, 8, 16, 4, 20, 0, 19, 12, 18, 3, 17, 10, 23, 11, 7, 5, 15, 13, 22, 2, 9,
+    ];
+    let rows = [
+        (0, 9, turns.as_slice(), true),
+        (0, 9, touching.as_slice(), false),
+        (0, 9, &turns[..23], false),
+        (0, 8, turns.as_slice(), false),
+        (0, 1, turns.as_slice(), false),
+    ];
+    for (e, f, next, expected) in rows {
+        let orders = one_crossing(rt.alloc(), 10, e, f)?;
+        let next = Sequence::new(next.to_vec(rt.alloc())?);
+        assert_eq!(rt;
+            is_listed_drawing(rt.alloc(), &graph, &Drawing { orders, next })?,
+            expected
+        );
+    }
+    Ok(())
+}
+
+#[test]
+fn a_triangle_grows_in_the_plane(rt: HostRuntime) -> Result<(), Fail> {
+    let triangle = Web::make(3, [(0, 1), (1, 2), (0, 2)].to_vec(rt.alloc())?)?;
+    assert!(rt; extends_by_search(rt.alloc(), &triangle, &[0, 1, 2])?);
+    Ok(())
+}
+
+#[test]
+fn five_nodes_do_not(rt: HostRuntime) -> Result<(), Fail> {
+    let web = Web::make(5, K5.to_vec(rt.alloc())?)?;
+    assert!(rt; extends_by_search(rt.alloc(), &web, &[0, 1, 2, 3, 4, 5, 6, 7, 8])?);
+    assert!(rt; !extends_by_search(rt.alloc(), &web, &[0, 1, 2, 3, 4, 5, 6, 7, 8, 9])?);
+    Ok(())
+}
