@@ -12,7 +12,8 @@ use xn_kinds::Var;
 
 /// The bound of a leaf in a state: the least of its value over all 0/1 values of the variables that the state doesn't give.
 ///
-/// It tries them all, so the time doubles with each of these variables that the leaf reads.
+/// It tries them all, so the time doubles with each of these variables that the leaf reads. `is_small` tests whether a leaf
+/// is one that it takes.
 pub fn bound_by_search(alloc: Global, leaf: &Leaf, given: &Given) -> Result<i128, AllocError>
     requires { IsSmallLeaf leaf.now.graph.now leaf.now.rows.now leaf.now.parts.now }
     ensures { IfOk result (λ b. IsBound leaf.now.graph.now leaf.now.rows.now (state_of given.now) leaf.now.d leaf.now.parts.now b) }

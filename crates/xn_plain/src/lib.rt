@@ -10,6 +10,7 @@ mod known;
 mod leaves;
 mod lists;
 mod orders;
+mod sizes;
 #[cfg(test)]
 mod tests;
 mod webs;
@@ -17,6 +18,6 @@ mod webs;
 pub use bounds::bound_by_search;
 pub use drawings::is_listed_drawing;
 pub use extensions::extends_by_search;
-pub use insertions::{in_one_face, is_corner, is_old, tail, with_dart};
-pub use known::{Given, Known, literal, value_of};
+pub use known::Given;
 pub use leaves::Leaf;
+pub use sizes::is_small;

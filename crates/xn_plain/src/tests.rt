@@ -2,8 +2,8 @@ use super::*;
 use std::alloc::{AllocError, Global};
 use std::test::Fail;
 use xn_graph::{Graph, Web};
-use xn_kinds::{Drawing, Orders};
-use xn_list::Sequence;
+use xn_kinds::{Drawing, Evidence, Orders, Row};
+use xn_list::{Lists, Sequence};
 
 /// The edges of K5.
 const K5: [(u32, u32); 10] = [
@@ -74,5 +74,37 @@ fn five_nodes_do_not(rt: HostRuntime) -> Result<(), Fail> {
     let web = Web::make(5, K5.to_vec(rt.alloc())?)?;
     assert!(rt; extends_by_search(rt.alloc(), &web, &[0, 1, 2, 3, 4, 5, 6, 7, 8])?);
     assert!(rt; !extends_by_search(rt.alloc(), &web, &[0, 1, 2, 3, 4, 5, 6, 7, 8, 9])?);
+    Ok(())
+}
+
+#[test]
+fn the_row_of_two_far_edges_has_its_bounds(rt: HostRuntime) -> Result<(), Fail> {
+    let alloc = rt.alloc();
+    let graph = Graph::make(4, [(0, 1), (2, 3)].to_vec(alloc)?)?;
+    let row = Row {
+        edges: Sequence::new([0, 1].to_vec(alloc)?),
+        orders: one_crossing(alloc, 2, 0, 1)?,
+        evidence: Evidence::Extension {
+            list: Sequence::new(Vec::new(alloc)),
+        },
+    };
+    let rows = vec![in alloc; row]?;
+    let open = Given {
+        decided: Sequence::new(Vec::new(alloc)),
+        placed: Lists::new(Vec::new(alloc)),
+    };
+    let crossed = Given {
+        decided: Sequence::new([(0, 1, true)].to_vec(alloc)?),
+        placed: Lists::new(Vec::new(alloc)),
+    };
+    let leaf = Leaf {
+        graph: &graph,
+        rows: &rows,
+        d: 2,
+        parts: &[(0, 5)],
+    };
+    assert!(rt; is_small(&leaf));
+    assert_eq!(rt; bound_by_search(alloc, &leaf, &open)?, 0);
+    assert_eq!(rt; bound_by_search(alloc, &leaf, &crossed)?, 7);
     Ok(())
 }
