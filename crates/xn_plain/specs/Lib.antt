@@ -1,6 +1,0 @@
-pub mod Known
-pub mod Leaf
-pub mod Bound
-pub mod Insertions
-pub mod Growth
-pub mod Drawings
