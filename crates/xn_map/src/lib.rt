@@ -12,6 +12,3 @@ mod rotation;
 
 pub use corners::Corner;
 pub use maps::{Map, MapErr};
-
-#[cfg(test)]
-mod tests;
