@@ -11,7 +11,9 @@ mod Marking
 mod Pairs
 mod Path
 mod Stages
+mod StubCounts
 mod Tally
+mod Tracing
 mod Turned
 mod Turns
 mod UsedPaths

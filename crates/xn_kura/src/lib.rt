@@ -5,8 +5,10 @@ mod evidence;
 pub mod laws;
 mod marks;
 mod repeats;
+mod stubs;
 #[cfg(test)]
 mod tests;
+mod traces;
 mod walks;
 
 pub use evidence::holds;

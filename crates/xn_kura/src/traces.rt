@@ -1,0 +1,50 @@
+// Paths that go straight on through nodes with two darts.
+ghost use Rattle.std.specs.Prelude.{◌≡◌, ◌≢◌, ℕ, ◌*◌, ◌<◌, IfOk, length};
+ghost use Rattle.xn_model.specs.Map.{tail_of};
+ghost use Rattle.xn_kura.specs.Straight.{AreStubs, IsStraight, IsStraightBetween, IsTraceOf, dart_count, dart_from, path_in, trace_in};
+
+use crate::stubs::{Stubs, tail};
+use std::alloc::{AllocError, Global};
+use xn_graph::Web;
+
+/// A path, and the node at which it ends.
+#[derive(Drop)]
+pub struct Trace {
+    pub end: u32,
+    pub path: Vec<u32>,
+}
+
+/// The other dart at the node of a dart, where it has two.
+fn other_dart(web: &Web, stubs: &Stubs, d: u32) -> u32
+    requires stubs { AreStubs web.now (2 * length web.now.ends) stubs.now.degree.items stubs.now.first.items stubs.now.last.items }
+    requires dart { d < 2 * length web.now.ends }
+    ensures below { result < 2 * length web.now.ends }
+    ensures other { (z : ℕ) → z < 2 * length web.now.ends → tail_of web.now.ends z ≡ tail_of web.now.ends d → z ≢ d →
+        dart_count web.now.ends (tail_of web.now.ends d) ≡ 2 → result ≡ z }
+{
+    let v = tail(web, d) as usize;
+    if stubs.first[v] == d {
+        stubs.last[v]
+    } else {
+        stubs.first[v]
+    }
+}
+
+/// The straight path that a dart begins.
+fn follow(alloc: Global, web: &Web, stubs: &Stubs, d: u32) -> Result<Option<Trace>, AllocError>
+    requires stubs { AreStubs web.now (2 * length web.now.ends) stubs.now.degree.items stubs.now.first.items stubs.now.last.items }
+    requires dart { d < 2 * length web.now.ends }
+    ensures { IfOk result (λ found. IsTraceOf web.now.ends d (trace_in found)) }
+{
+    let mut path = Vec::new(alloc);
+    let mut dart = d;
+    for _ in 0..web.segments() {
+        path.push(dart / 2)?;
+        let end = tail(web, dart ^ 1);
+        if stubs.degree[end as usize] != 2 {
+            return Ok(Some(Trace { end, path }));
+        }
+        dart = other_dart(web, stubs, dart ^ 1);
+    }
+    Ok(None)
+}
