@@ -1,6 +1,7 @@
 mod Bound
 mod Branches
 mod CrossingFree
+mod Degrees
 mod Distinct
 mod Excludes
 mod Faces

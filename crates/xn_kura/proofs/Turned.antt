@@ -38,7 +38,7 @@ distinct-reverse (x ∷ xs) d =
     let P : List ℕ → Type 0 = λ zs. IsDistinct eqb zs in
     subst P (sym (reverse-cons x xs)) (distinct-push (reverse xs) x (distinct-reverse xs d.1) (false_from_ne_true _ (λ h. all_not x xs d.0 x (has-reverse xs x h) refl)))
 
-distinct-append : (xs ys : List ℕ) → IsDistinct eqb xs → IsDistinct eqb ys → ((x : ℕ) → has xs x ≡ true → has ys x ≡ true → ⊥) → IsDistinct eqb (xs ++ ys)
+pub distinct-append : (xs ys : List ℕ) → IsDistinct eqb xs → IsDistinct eqb ys → ((x : ℕ) → has xs x ≡ true → has ys x ≡ true → ⊥) → IsDistinct eqb (xs ++ ys)
 unfolding IsDistinct
 distinct-append [] ys one two apart = two
 distinct-append (x ∷ xs) ys one two apart =

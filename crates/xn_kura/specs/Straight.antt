@@ -40,12 +40,16 @@ abbrev pub IsTraceOf : List (ℕ × ℕ) → ℕ → Option (ℕ × List ℕ) �
 IsTraceOf ends d found =
     (u : ℕ) (path : List ℕ) (v : ℕ) → IsStraight ends u path v → dart_from ends u path ≡ d → found ≡ Some (v, path)
 
--- the path is the one that a dart at u begins and that ends at v, if there is one
+-- the path is the straight one from u to v that the dart begins; with none, the dart begins no such path
+abbrev pub IsStraightBy : List (ℕ × ℕ) → ℕ → ℕ → ℕ → Option (List ℕ) → Type 0
+IsStraightBy ends u v d None = (path : List ℕ) → IsStraight ends u path v → dart_from ends u path ≢ d
+IsStraightBy ends u v d (Some path) =
+    (tail_of ends d ≡ u) × ((other : List ℕ) (w : ℕ) → IsStraight ends u other w → dart_from ends u other ≡ d → (w ≡ v) × (path ≡ other))
+
+-- the path is the straight one from u to v that some dart begins; with none, there is no such path
 abbrev pub IsStraightBetween : List (ℕ × ℕ) → ℕ → ℕ → Option (List ℕ) → Type 0
 IsStraightBetween ends u v None = (path : List ℕ) → ¬ IsStraight ends u path v
-IsStraightBetween ends u v (Some path) =
-    (d : ℕ) × (d < 2 * length ends) × (tail_of ends d ≡ u)
-    × ((other : List ℕ) (w : ℕ) → IsStraight ends u other w → dart_from ends u other ≡ d → (w ≡ v) × (path ≡ other))
+IsStraightBetween ends u v (Some path) = (d : ℕ) × (d < 2 * length ends) × IsStraightBy ends u v d (Some path)
 
 -- the end and the path of a trace
 abbrev pub trace_in : Option Trace → Option (ℕ × List ℕ)

@@ -1,7 +1,7 @@
 // Paths that go straight on through nodes with two darts.
 ghost use Rattle.std.specs.Prelude.{◌≡◌, ◌≢◌, ℕ, ◌*◌, ◌<◌, IfOk, length};
 ghost use Rattle.xn_model.specs.Map.{tail_of};
-ghost use Rattle.xn_kura.specs.Straight.{AreStubs, IsStraight, IsStraightBetween, IsTraceOf, dart_count, dart_from, path_in, trace_in};
+ghost use Rattle.xn_kura.specs.Straight.{AreStubs, IsStraight, IsStraightBetween, IsStraightBy, IsTraceOf, dart_count, dart_from, path_in, trace_in};
 
 use crate::stubs::{Stubs, tail};
 use std::alloc::{AllocError, Global};
@@ -45,6 +45,40 @@ fn follow(alloc: Global, web: &Web, stubs: &Stubs, d: u32) -> Result<Option<Trac
             return Ok(Some(Trace { end, path }));
         }
         dart = other_dart(web, stubs, dart ^ 1);
+    }
+    Ok(None)
+}
+
+/// The straight path from u to v that a dart begins, if it begins one.
+fn path_by(alloc: Global, web: &Web, stubs: &Stubs, u: u32, v: u32, d: u32) -> Result<Option<Vec<u32>>, AllocError>
+    requires stubs { AreStubs web.now (2 * length web.now.ends) stubs.now.degree.items stubs.now.first.items stubs.now.last.items }
+    requires dart { d < 2 * length web.now.ends }
+    ensures { IfOk result (λ found. IsStraightBy web.now.ends u v d (path_in found)) }
+{
+    if tail(web, d) != u {
+        return Ok(None);
+    }
+    match follow(alloc, web, stubs, d)? {
+        None => Ok(None),
+        Some(trace) => {
+            if trace.end == v {
+                Ok(Some(trace.path))
+            } else {
+                Ok(None)
+            }
+        }
+    }
+}
+
+/// A straight path from u to v, if there is one.
+pub fn path_between(alloc: Global, web: &Web, stubs: &Stubs, u: u32, v: u32) -> Result<Option<Vec<u32>>, AllocError>
+    requires stubs { AreStubs web.now (2 * length web.now.ends) stubs.now.degree.items stubs.now.first.items stubs.now.last.items }
+    ensures { IfOk result (λ found. IsStraightBetween web.now.ends u v (path_in found)) }
+{
+    for d in 0..2 * web.segments() {
+        if let Some(path) = path_by(alloc, web, stubs, u, v, d)? {
+            return Ok(Some(path));
+        }
     }
     Ok(None)
 }
