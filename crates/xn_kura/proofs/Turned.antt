@@ -1,20 +1,20 @@
 -- Paths turned round, and some of the paths in another order.
-use Rattle.std.proofs.Common.{◌≡◌, ◌≢◌, ℕ, zero, suc, ◌+◌, ◌<◌, ◌⊎◌, inl, inr, Bool, true, false, ◌||◌, eqb, List, [], ◌∷◌, ◌++◌, length, reverse, refl, sym, ◌∙◌, ap, subst, arith}
-use Rattle.std.specs.Prelude.{All, slice_index}
+use Rattle.std.proofs.Common.{◌≡◌, ◌≢◌, ℕ, zero, suc, ◌<◌, inl, inr, true, false, eqb, List, [], ◌∷◌, ◌++◌, length, reverse, refl, sym, ◌∙◌, ap, subst, arith}
+use Rattle.std.specs.Prelude.{slice_index}
 use Rattle.std.specs.List.{AllByRecursion, IsDistinct, concat}
-use Rattle.std.proofs.lemmas.Bool.{cases_eq, cases_Bool, both_ways, cond-false, cond-true, eqb-false, eqb-true, eq-eqb, false_from_ne_true, ne_eqb, or_cases, or_left, or_right}
+use Rattle.std.proofs.lemmas.Bool.{cases_eq, cases_Bool, both_ways, cond-false, cond-true, eqb-true, eq-eqb, false_from_ne_true, ne_eqb, or_cases, or_left, or_right}
 use Rattle.std.proofs.lemmas.List.{length-reverse, reverse-append}
 use Rattle.xn_model.specs.Evidence.{IsSubdivision, LeadAll, LeadsTo, all_inner, far_end, inner_nodes}
 use Rattle.xn_model.specs.Graph.{Graph, ends_at, touches}
 use Rattle.xn_model.specs.Lists.{has}
 use Rattle.xn_kura.proofs.Branches.{place_of}
-use Rattle.xn_kura.proofs.Distinct.{all_not, distinct-apart, distinct-left, distinct-right, has-append, has-left, has-right}
+use Rattle.xn_kura.proofs.Distinct.{all_not, distinct-apart, distinct-right, has-append}
 use Rattle.xn_kura.proofs.MarkedPaths.{All-from_has}
 use Rattle.xn_kura.proofs.Marking.{distinct-push}
 use Rattle.xn_kura.proofs.Stages.{lead_all}
-use Rattle.xn_kura.proofs.UsedPaths.{has-concat, inner_at, lead_at, one_path, path_distinct}
+use Rattle.xn_kura.proofs.UsedPaths.{inner_at, lead_at, one_path, path_distinct}
 use Rattle.xn_kura.specs.Flaws.{begins_at, goes_to, path_at}
-use Rattle.xn_kura.specs.Laws.{AreSomePaths, IsPathOrTurned}
+use Rattle.xn_kura.specs.Laws.{AreSomePaths}
 
 -- ---- lists turned round
 
