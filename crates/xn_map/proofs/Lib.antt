@@ -5,5 +5,6 @@ pub mod Fill
 pub mod Forest
 pub mod JoinedNodes
 pub mod Marking
+pub mod Passing
 pub mod Removed
 pub mod Rotations

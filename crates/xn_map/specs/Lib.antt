@@ -4,4 +4,5 @@ pub mod Faces
 pub mod Forest
 pub mod Listed
 pub mod Marks
+pub mod Passing
 pub mod Rotation

@@ -8,6 +8,7 @@ ghost use Rattle.xn_map.specs.Rotation.{IsRotationFlaw};
 ghost use Rattle.xn_map.specs.declared.maps.MapErr.TheVariants.{Memory};
 
 mod changes;
+mod passing;
 
 use crate::components::{component_count, in_one_component};
 use crate::corners::Corner;
