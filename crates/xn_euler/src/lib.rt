@@ -3,5 +3,7 @@
 
 mod deletion;
 pub mod laws;
+mod smoothing;
 
 pub use deletion::delete_edge;
+pub use smoothing::smooth;
