@@ -165,7 +165,7 @@ ring_of_two next p q to_q to_p (suc k) = elim (ring_of_two next p q to_q to_p k)
 ]
 
 -- a dart at v is one of its two
-one_of_two : (m : ListedMap) → IsListedMap m → (v p q : ℕ) → AreTwoDarts m v p q → (d : ℕ) → d < 2 * length m.web.ends → tail_of m.web.ends d ≡ v → (d ≡ p) ⊎ (d ≡ q)
+pub one_of_two : (m : ListedMap) → IsListedMap m → (v p q : ℕ) → AreTwoDarts m v p q → (d : ℕ) → d < 2 * length m.web.ends → tail_of m.web.ends d ≡ v → (d ≡ p) ⊎ (d ≡ q)
 one_of_two m listed v p q two d d_in at_v =
     let walk = listed.is_map.round p d two.first_in d_in (two.at_node ∙ sym at_v) in
     elim (ring_of_two (at m.next) p q two.to_second two.to_first walk.0) [
