@@ -3,5 +3,7 @@
 
 mod deletion;
 pub mod laws;
+mod splitting;
 
 pub use deletion::delete_edge;
+pub use splitting::split_node;

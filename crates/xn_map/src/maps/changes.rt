@@ -107,8 +107,8 @@ fn take_out(rings: &mut Rings, d: u32)
     rings.splice(before, d);
 }
 
-// Puts a dart that is alone in the place of another, which is alone then.
-fn take_place(rings: &mut Rings, x: u32, d: u32)
+/// Puts a dart that is alone in the place of another, which is alone then.
+pub fn take_place(rings: &mut Rings, x: u32, d: u32)
     requires darts { (x < length rings.old) × (d < length rings.old) × (x ≢ d) }
     requires alone { at rings.old d ≡ d }
     requires permutes { Permutes (length rings.old) (at rings.old) }
