@@ -1,5 +1,7 @@
+pub mod Arcs
 pub mod Changes
 pub mod Counting
+pub mod Cut
 pub mod FaceSteps
 pub mod Fill
 pub mod Forest
@@ -8,3 +10,4 @@ pub mod Marking
 pub mod Passing
 pub mod Removed
 pub mod Rotations
+pub mod Subdivided

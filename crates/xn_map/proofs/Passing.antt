@@ -16,8 +16,9 @@ use Rattle.xn_genus.proofs.Compress.{EndsIn_tails, half_reverse, tail_in}
 use Rattle.xn_surgery.specs.Smoothing.{IsSmoothing, dart_smoothed, node_before}
 use Rattle.xn_surgery.proofs.Smooth.{map_smoothed}
 use Rattle.xn_map.specs.Changes.{IsFilled, TakesOut, TakesPlace, new_name}
+use Rattle.xn_map.specs.Cutting.{MovesDart}
 use Rattle.xn_map.specs.Listed.{IsListedMap, ListedMap, map_of}
-use Rattle.xn_map.specs.Passing.{AreTwoDarts, HasTwoDarts, LeadsOn, LosesNode, MovesDart, MovesNode, RunsOn, Smooths, dart_run}
+use Rattle.xn_map.specs.Passing.{AreTwoDarts, HasTwoDarts, LeadsOn, LosesNode, MovesNode, RunsOn, Smooths, dart_run}
 use Rattle.xn_map.proofs.Fill.{dart_before_in}
 
 reverse_other : (q : ℕ) → reverse_of q ≢ q

@@ -1,5 +1,7 @@
 pub mod Changes
 pub mod Corners
+pub mod Cutting
+pub mod Dividing
 pub mod Faces
 pub mod Forest
 pub mod Listed

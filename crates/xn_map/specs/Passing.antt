@@ -40,12 +40,6 @@ pub record RunsOn (p q : ℕ) (old new : List ℕ) : Type 0 where
   pub far_alone : at new (reverse_of q) ≡ reverse_of q
   pub turns : (d : ℕ) → d < length old → d ≢ q → d ≢ reverse_of q → dart_run p q (at new d) ≡ at old (dart_run p q d)
 
--- the dart d is at v now
-pub record MovesDart (d v : ℕ) (old new : Graph) : Type 0 where
-  pub same_nodes : new.nodes ≡ old.nodes
-  pub same_length : length new.ends ≡ length old.ends
-  pub tails : (x : ℕ) → x < 2 * length old.ends → tail_of new.ends x ≡ (if x == d then v else tail_of old.ends x)
-
 -- what was at u is at v now
 pub record MovesNode (u v : ℕ) (old new : Graph) : Type 0 where
   pub same_nodes : new.nodes ≡ old.nodes

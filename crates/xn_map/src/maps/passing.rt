@@ -4,11 +4,12 @@ ghost use Rattle.xn_model.specs.Lists.{at};
 ghost use Rattle.xn_model.specs.Map.{reverse_of, tail_of};
 ghost use Rattle.xn_model.specs.Permutation.{Permutes};
 ghost use Rattle.xn_map.specs.Listed.{IsListedMap};
-ghost use Rattle.xn_map.specs.Passing.{AreTwoDarts, HasTwoDarts, LeadsOn, LosesNode, MovesDart, MovesNode, RunsOn, Smooths};
+ghost use Rattle.xn_map.specs.Passing.{AreTwoDarts, HasTwoDarts, LeadsOn, LosesNode, MovesNode, RunsOn, Smooths};
 
 use crate::darts;
 use crate::maps::Map;
 use crate::maps::changes::{fill, take_out, take_place};
+use crate::maps::splitting::move_dart;
 use xn_graph::Web;
 use xn_ring::Rings;
 
@@ -99,19 +100,5 @@ fn move_node(web: &mut Web, u: u32, v: u32)
         if darts::tail(web, d) == u {
             move_dart(web, d, v);
         }
-    }
-}
-
-// Brings a dart to another node.
-fn move_dart(web: &mut Web, d: u32, v: u32)
-    requires dart { d < 2 * length web.old.ends }
-    requires node { v < web.old.nodes }
-    ensures { MovesDart d v web.old web.new }
-{
-    let (first, second) = web.end(d / 2);
-    if d % 2 == 0 {
-        web.set_end(d / 2, v, second);
-    } else {
-        web.set_end(d / 2, first, v);
     }
 }
