@@ -26,10 +26,10 @@ all_has p (y ∷ ys) all x h =
       | inr later ↦ all_has p ys parts.1 x later
     ]
 
-has-here : (x : ℕ) (xs : List ℕ) → has (x ∷ xs) x ≡ true
+pub has-here : (x : ℕ) (xs : List ℕ) → has (x ∷ xs) x ≡ true
 has-here x xs = rw (eq-eqb x x refl) refl
 
-has-later : (y x : ℕ) (xs : List ℕ) → has xs x ≡ true → has (y ∷ xs) x ≡ true
+pub has-later : (y x : ℕ) (xs : List ℕ) → has xs x ≡ true → has (y ∷ xs) x ≡ true
 has-later y x xs h = elim (cases_Bool (eqb y x)) [ inl here ↦ rw here refl | inr other ↦ rw other h ]
 
 all_from_has : (p : ℕ → Bool) (xs : List ℕ) → ((x : ℕ) → has xs x ≡ true → p x ≡ true) → list_all p xs ≡ true
@@ -46,7 +46,7 @@ neither : (a b : Bool) → (a || b) ≡ false → (a ≡ false) × (b ≡ false)
 neither true b h = absurd (cc)
 neither false b h = (refl, h)
 
-not_true : (b : Bool) → not b ≡ true → b ≡ false
+pub not_true : (b : Bool) → not b ≡ true → b ≡ false
 not_true true h = absurd (both_ways false refl h)
 not_true false h = refl
 
@@ -68,14 +68,14 @@ distinct_from_test (x ∷ xs) h =
     let parts : (not (has xs x) ≡ true) × (is_distinct xs ≡ true) = and_parts _ _ h in
     (unlike_each x xs (not_true _ parts.0), distinct_from_test xs parts.1)
 
-test_from_distinct : (xs : List ℕ) → IsDistinct nat_eq xs → is_distinct xs ≡ true
+pub test_from_distinct : (xs : List ℕ) → IsDistinct nat_eq xs → is_distinct xs ≡ true
 unfolding IsDistinct
 test_from_distinct [] distinct = refl
 test_from_distinct (x ∷ xs) distinct = and_from _ _ (ap not (out_of_unlike x xs distinct.0)) (test_from_distinct xs distinct.1)
 
 -- ---- orders
 
-edge_below : (n e : ℕ) → has (range_with_len 0 n) e ≡ true → e < n
+pub edge_below : (n e : ℕ) → has (range_with_len 0 n) e ≡ true → e < n
 edge_below n e h = elim (cases_lt e n) [
   | inl low ↦ low
   | inr high ↦ absurd (both_ways _ (has-range_past 0 n e (omega (arith, high))) h)
@@ -88,7 +88,7 @@ module _ (g : Graph) (lists : List (List ℕ)) where
     | inr outside ↦ absurd (both_ways false refl (rw (order_at_outside (edges_of g) lists e outside) at h))
   ]
 
-  low_edge : (e f : ℕ) → has (order_of g lists e) f ≡ true → e < length g.ends
+  pub low_edge : (e f : ℕ) → has (order_of g lists e) f ≡ true → e < length g.ends
   low_edge e f h = edge_below (length g.ends) e (within e f h)
 
   entry : AreOrders g (order_of g lists) → (e f : ℕ) → has (order_of g lists e) f ≡ true → (independent g.ends e f ≡ true) × (has (order_of g lists f) e ≡ true)

@@ -1,10 +1,12 @@
 -- Tests that compute whether lists are orders and whether edges cross.
-use Rattle.std.specs.Prelude.{◌≡◌, ℕ, ◌+◌, ◌*◌, ◌<◌, ◌≤◌, ◌==◌, ◌&&◌, ◌||◌, Bool, true, not, List, [], ◌∷◌, All, length, map, nat_lt}
-use Rattle.std.specs.List.{list_all}
+use Rattle.std.specs.Prelude.{◌≡◌, ℕ, ◌+◌, ◌*◌, ◌<◌, ◌≤◌, ◌==◌, ◌&&◌, ◌||◌, Bool, true, not, List, [], ◌∷◌, All, filter, length, map, nat_lt}
+use Rattle.std.specs.List.{flat_map, list_all}
+use Rattle.xn_model.specs.Drawing.{IsListedDrawing, order_of}
 use Rattle.xn_model.specs.Graph.{Graph, edges_of, ends_at, independent}
 use Rattle.xn_model.specs.Lists.{at, has, position_in}
 use Rattle.xn_model.specs.Map.{IsFlatMap}
-use Rattle.xn_model.specs.Web.{crossing_node, first_segment, segments_through}
+use Rattle.xn_model.specs.Web.{crossing_node, first_segment, segments_of, segments_through}
+use Rattle.xn_kinds.specs.declared.drawings.Drawing.{Drawing}
 
 -- no number stands twice
 abbrev pub is_distinct : List ℕ → Bool
@@ -48,3 +50,19 @@ IsListedFlatMap web next = (length next ≡ 2 * length web.ends) × IsFlatMap we
 -- the segments of an edge whose list this is
 abbrev pub through : Graph → List (ℕ × ℕ) → ℕ → List ℕ → List (ℕ × ℕ)
 through g pairs e list = segments_through (ends_at g.ends e).0 (map (crossing_node g.nodes pairs e) list) (ends_at g.ends e).1
+
+-- the pairs of e with those of the edges that stand in its list
+abbrev pub crossings_with : ℕ → List ℕ → List ℕ → List (ℕ × ℕ)
+crossings_with e list edges = filter (λ p. has list p.1) (map (λ f. (e, f)) edges)
+
+-- the segments of these edges
+abbrev pub segments_of_all : Graph → List (List ℕ) → List (ℕ × ℕ) → List ℕ → List (ℕ × ℕ)
+segments_of_all g lists pairs edges = flat_map (segments_of g pairs (order_of g lists)) edges
+
+-- the drawing is one of the graph
+abbrev pub IsDrawingOf : Graph → Drawing → Type 0
+IsDrawingOf g drawing = IsListedDrawing g drawing.orders drawing.next
+
+-- the lists of a drawing as a function
+abbrev pub order_in : Graph → Drawing → ℕ → List ℕ
+order_in g drawing = order_of g drawing.orders

@@ -1,7 +1,7 @@
 -- What the search for flat insertions looks for.
 use Rattle.std.specs.Prelude.{ℕ, ◌+◌, ◌*◌, ◌^◌, ◌≤◌, List, ◌∷◌, length}
 use Rattle.xn_model.specs.Graph.{Graph}
-use Rattle.xn_model.specs.Insertion.{CutsFace, Extends, Follow, HangsAt, IsCorner, StandsAfter}
+use Rattle.xn_model.specs.Insertion.{CutsFace, Extends, Follow, HangsAt, IsCorner, ReachesEnd, StandsAfter}
 use Rattle.xn_model.specs.Lists.{at}
 use Rattle.xn_model.specs.Map.{face_step}
 use Rattle.xn_model.specs.Permutation.{Reaches}
@@ -22,6 +22,26 @@ CanExtend web done rest next = (last : ℕ → ℕ) × Extends web.ends done res
 -- what follows the segment can go in after it
 abbrev pub CanGoOn : Growth → (ℕ → ℕ) → Type 0
 CanGoOn growth after = CanExtend growth.web.now (growth.segment ∷ growth.done.now) growth.later.now after
+
+-- the segment and those that follow it can still go in
+abbrev pub IsNext : Growth → Type 0
+IsNext growth = IsGrowing growth.web.now growth.done.now (growth.segment ∷ growth.later.now) growth.next.now
+
+-- the segment is in, and the list has its map
+abbrev pub IsDone : Growth → List ℕ → Type 0
+IsDone growth after = IsGrowing growth.web.now (growth.segment ∷ growth.done.now) growth.later.now after
+
+-- the segment can go in, and then what follows
+abbrev pub CanInsert : Growth → Type 0
+CanInsert growth = CanExtend growth.web.now growth.done.now (growth.segment ∷ growth.later.now) (at growth.next.now)
+
+-- the first dart can go to the corner after c
+abbrev pub IsFirstCorner : Growth → ℕ → Type 0
+IsFirstCorner growth c = IsCorner growth.web.now.ends growth.done.now (2 * growth.segment) c
+
+-- insertions of the list lead to its end
+abbrev pub CanReachEnd : Graph → List ℕ → Type 0
+CanReachEnd web list = (last : ℕ → ℕ) × ReachesEnd web.ends list last
 
 -- the dart d can go to a corner, where the end with e is new, and then what follows
 abbrev pub CanHang : Growth → ℕ → ℕ → Type 0

@@ -1,9 +1,11 @@
 -- The parts of the value of a leaf.
 use Rattle.std.specs.Prelude.{ℕ, ◌*◌, ◌-◌, ◌≤◌, ◌<◌, ◌^◌, ℤ, pos, ◌-ℤ◌, ◌≤ℤ◌, List, length, All, if◌then◌else◌}
-use Rattle.xn_model.specs.Graph.{Graph, independent}
+use Rattle.xn_model.specs.Graph.{Graph, edges_of, independent, pairs_of}
 use Rattle.xn_model.specs.Lists.{has, neighbours, total}
 use Rattle.xn_kinds.specs.Row.{Values, literal, orders_of}
+use Rattle.xn_kinds.specs.Bound.{leaf_value, part_value, total_ℤ}
 use Rattle.xn_kinds.specs.declared.rows.Row.{Row}
+use Rattle.xn_plain.specs.declared.leaves.Leaf.{Leaf}
 
 -- whether a pair crosses otherwise than in the row
 abbrev pub pair_part : Row → Values → ℕ × ℕ → ℕ
@@ -36,3 +38,27 @@ pub record IsSmallLeaf (g : Graph) (rows : List Row) (parts : List (ℕ × ℕ))
 -- the number is at most n times 2^85, above and below 0
 abbrev pub IsSmallPart : ℕ → ℤ → Type 0
 IsSmallPart n z = (z ≤ℤ pos (n * 2 ^ 85)) × ((pos 0 -ℤ pos (n * 2 ^ 85)) ≤ℤ z)
+
+-- the leaf has at most 1,000 parts, and each is a small row
+abbrev pub IsSmall : Leaf → Type 0
+IsSmall leaf = IsSmallLeaf leaf.graph.now leaf.rows.now leaf.parts.now
+
+-- the value of the leaf
+abbrev pub value_in : Leaf → Values → ℤ
+value_in leaf = leaf_value leaf.graph.now leaf.rows.now leaf.d leaf.parts.now
+
+-- the weighted sum of its rows
+abbrev pub parts_in : Leaf → Values → ℤ
+parts_in leaf v = total_ℤ (part_value leaf.graph.now leaf.rows.now v) leaf.parts.now
+
+-- the sum over the pairs of e with each of these edges
+abbrev pub parts_with : Graph → Row → ℕ → List ℕ → Values → ℕ
+parts_with g row e edges v = total (independent_part g row v e) edges
+
+-- the number of these pairs that cross
+abbrev pub crossing_pairs : List (ℕ × ℕ) → Values → ℕ
+crossing_pairs pairs v = total (λ p. v.crosses p.0 p.1) pairs
+
+-- the independent pairs of the graph of the leaf
+abbrev pub pairs_in : Leaf → List (ℕ × ℕ)
+pairs_in leaf = pairs_of leaf.graph.now.ends (edges_of leaf.graph.now)

@@ -4,3 +4,4 @@ pub mod Bound
 pub mod Insertions
 pub mod Growth
 pub mod Drawings
+pub mod Found

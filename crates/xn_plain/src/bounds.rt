@@ -1,9 +1,7 @@
-ghost use Rattle.std.specs.Prelude.{◌≡◌, ◌≤◌, ◌∷◌, ◌++◌, IfOk, length};
-ghost use Rattle.xn_model.specs.Graph.{edges_of, pairs_of};
-ghost use Rattle.xn_kinds.specs.Bound.{IsBound, leaf_value};
-ghost use Rattle.xn_plain.specs.Bound.{IsLeast};
+ghost use Rattle.std.specs.Prelude.{◌≡◌, ◌≤◌, ◌∷◌, IfOk, length};
+ghost use Rattle.xn_plain.specs.Bound.{IsBoundIn, IsLeast};
 ghost use Rattle.xn_plain.specs.Known.{known_in, state_of};
-ghost use Rattle.xn_plain.specs.Leaf.{IsSmallLeaf};
+ghost use Rattle.xn_plain.specs.Leaf.{IsSmall, pairs_in, value_in};
 
 use crate::known::{Given, Known};
 use crate::leaves::{Leaf, leaf_value};
@@ -15,8 +13,8 @@ use xn_kinds::Var;
 /// It tries them all, so the time doubles with each of these variables that the leaf reads. `is_small` tests whether a leaf
 /// is one that it takes.
 pub fn bound_by_search(alloc: Global, leaf: &Leaf, given: &Given) -> Result<i128, AllocError>
-    requires { IsSmallLeaf leaf.now.graph.now leaf.now.rows.now leaf.now.parts.now }
-    ensures { IfOk result (λ b. IsBound leaf.now.graph.now leaf.now.rows.now (state_of given.now) leaf.now.d leaf.now.parts.now b) }
+    requires { IsSmall leaf.now }
+    ensures { IfOk result (IsBoundIn given.now leaf.now) }
 {
     prove!(leaf.graph.pair_count() <= 499_500);
     let pairs = leaf.graph.pairs(alloc)?;
@@ -31,10 +29,10 @@ fn least(
     given: &Given,
     tried: &[(Var, bool)],
 ) -> Result<i128, AllocError>
-    requires small { IsSmallLeaf leaf.now.graph.now leaf.now.rows.now leaf.now.parts.now }
-    requires pairs { pairs.now ≡ pairs_of leaf.now.graph.now.ends (edges_of leaf.now.graph.now) }
+    requires small { IsSmall leaf.now }
+    requires pairs { pairs.now ≡ pairs_in leaf.now }
     requires few { length pairs.now ≤ 2000000 }
-    ensures { IfOk result (IsLeast (known_in (state_of given.now) tried.now) (leaf_value leaf.now.graph.now leaf.now.rows.now leaf.now.d leaf.now.parts.now)) }
+    ensures { IfOk result (IsLeast (known_in (state_of given.now) tried.now) (value_in leaf.now)) }
 {
     match leaf_value(&Known { given, tried }, leaf, pairs) {
         Ok(value) => Ok(value),

@@ -1,10 +1,10 @@
-ghost use Rattle.std.specs.Prelude.{◌≡◌, ◌*◌, ◌≤◌, ◌<◌, ◌^◌, ◌↔◌, IfOk, IsTrue, length};
-ghost use Rattle.xn_model.specs.Drawing.{IsListedDrawing, order_of};
+ghost use Rattle.std.specs.Prelude.{◌≡◌, ◌≤◌, ◌<◌, ◌^◌, ◌↔◌, IfOk, IsTrue, length};
+ghost use Rattle.xn_model.specs.Drawing.{order_of};
 ghost use Rattle.xn_model.specs.Graph.{edges_of};
 ghost use Rattle.xn_model.specs.Lists.{at};
 ghost use Rattle.xn_model.specs.Web.{first_segment};
 ghost use Rattle.xn_graph.specs.Limits.{graph_of};
-ghost use Rattle.xn_plain.specs.Drawings.{AllCross, AreShort, IsListedFlatMap, cross_along, crosses_at};
+ghost use Rattle.xn_plain.specs.Drawings.{AllCross, AreShort, IsDrawingOf, IsListedFlatMap, cross_along, crosses_at, order_in};
 
 use crate::lists::{at, numbers, position_in};
 use crate::orders::{are_orders, are_short, order};
@@ -20,7 +20,7 @@ pub fn is_listed_drawing(
     graph: &Graph,
     drawing: &Drawing,
 ) -> Result<bool, AllocError>
-    ensures { IfOk result (λ yes. IsTrue yes ↔ IsListedDrawing graph.now drawing.now.orders drawing.now.next) }
+    ensures { IfOk result (λ yes. IsTrue yes ↔ IsDrawingOf graph.now drawing.now) }
 {
     let edges = all_edges(alloc, graph)?;
     if !are_short(&drawing.orders) {
@@ -29,16 +29,16 @@ pub fn is_listed_drawing(
     is_drawing(alloc, graph, drawing, &edges)
 }
 
-// The edges of a graph, in order.
-fn all_edges(alloc: Global, graph: &Graph) -> Result<Vec<u32>, AllocError>
+/// The edges of a graph, in order.
+pub fn all_edges(alloc: Global, graph: &Graph) -> Result<Vec<u32>, AllocError>
     ensures edges { IfOk result (λ edges. edges.items ≡ edges_of graph.now) }
     ensures few { IfOk result (λ edges. length edges.items ≤ 1000) }
 {
     numbers(alloc, graph.edges())
 }
 
-// The same, where the edges of the graph are at hand.
-fn is_drawing(
+/// The same, where the edges of the graph are at hand.
+pub fn is_drawing(
     alloc: Global,
     graph: &Graph,
     drawing: &Drawing,
@@ -47,7 +47,7 @@ fn is_drawing(
     requires short { AreShort drawing.now.orders }
     requires edges { edges.now ≡ edges_of graph.now }
     requires few { length edges.now ≤ 1000 }
-    ensures { IfOk result (λ yes. IsTrue yes ↔ IsListedDrawing graph.now drawing.now.orders drawing.now.next) }
+    ensures { IfOk result (λ yes. IsTrue yes ↔ IsDrawingOf graph.now drawing.now) }
 {
     if drawing.orders.len() != graph.edges() as usize {
         return Ok(false);
@@ -121,7 +121,7 @@ fn crosses_at(graph: &Graph, drawing: &Drawing, edges: &[u32], e: u32, f: u32) -
     requires edges { edges.now ≡ edges_of graph.now }
     requires few { length edges.now ≤ 1000 }
     requires short { AreShort drawing.now.orders }
-    ensures { result ≡ crosses_at edges.now (order_of graph.now drawing.now.orders) (at drawing.now.next) e f }
+    ensures { result ≡ crosses_at edges.now (order_in graph.now drawing.now) (at drawing.now.next) e f }
 {
     let next = drawing.next.as_slice();
     let before = first_segment(graph, &drawing.orders, edges, e)
@@ -135,7 +135,7 @@ fn cross_along(graph: &Graph, drawing: &Drawing, edges: &[u32], e: u32) -> bool
     requires edges { edges.now ≡ edges_of graph.now }
     requires few { length edges.now ≤ 1000 }
     requires short { AreShort drawing.now.orders }
-    ensures { result ≡ cross_along edges.now (order_of graph.now drawing.now.orders) (at drawing.now.next) e }
+    ensures { result ≡ cross_along edges.now (order_in graph.now drawing.now) (at drawing.now.next) e }
 {
     let list = order(graph, &drawing.orders, e);
     list.iter()
@@ -147,7 +147,7 @@ fn all_cross(graph: &Graph, drawing: &Drawing, edges: &[u32]) -> bool
     requires edges { edges.now ≡ edges_of graph.now }
     requires few { length edges.now ≤ 1000 }
     requires short { AreShort drawing.now.orders }
-    ensures { IsTrue result ↔ AllCross graph.now (order_of graph.now drawing.now.orders) (at drawing.now.next) }
+    ensures { IsTrue result ↔ AllCross graph.now (order_in graph.now drawing.now) (at drawing.now.next) }
 {
     for e in 0..graph.edges() {
         if !cross_along(graph, drawing, edges, e) {

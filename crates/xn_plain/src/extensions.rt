@@ -1,7 +1,7 @@
-ghost use Rattle.std.specs.Prelude.{◌≡◌, ℕ, ◌*◌, ◌/◌, ◌<◌, ◌↔◌, ◌∷◌, IfOk, IsTrue, length};
-ghost use Rattle.xn_model.specs.Insertion.{GrowsFromFirst, IsCorner, ReachesEnd};
+ghost use Rattle.std.specs.Prelude.{◌≡◌, ◌*◌, ◌/◌, ◌<◌, ◌↔◌, IfOk, IsTrue, length};
+ghost use Rattle.xn_model.specs.Insertion.{GrowsFromFirst};
 ghost use Rattle.xn_model.specs.Lists.{at};
-ghost use Rattle.xn_plain.specs.Growth.{CanCut, CanCutFrom, CanExtend, CanHang, IsGrowing};
+ghost use Rattle.xn_plain.specs.Growth.{CanCut, CanCutFrom, CanExtend, CanGoOn, CanHang, CanInsert, CanReachEnd, IsDone, IsFirstCorner, IsGrowing, IsNext};
 
 use crate::insertions::{in_one_face, is_corner, is_old, tail, with_dart};
 use crate::lists::numbers;
@@ -13,7 +13,7 @@ use xn_graph::Web;
 /// It tries each corner for each dart, so its time may grow exponentially with the length of the list.
 pub fn extends_by_search(alloc: Global, web: &Web, list: &[u32]) -> Result<bool, AllocError>
     requires { GrowsFromFirst web.now.ends list.now }
-    ensures { IfOk result (λ yes. IsTrue yes ↔ ((last : ℕ → ℕ) × ReachesEnd web.now.ends list.now last)) }
+    ensures { IfOk result (λ yes. IsTrue yes ↔ CanReachEnd web.now list.now) }
 {
     match list {
         [] => Ok(false),
@@ -68,8 +68,8 @@ fn extends(
 // Whether the segment can go in, and then those that follow it.
 #[cycle(grow)]
 fn inserts(alloc: Global, growth: &Growth) -> Result<bool, AllocError>
-    requires { IsGrowing growth.now.web.now growth.now.done.now (growth.now.segment ∷ growth.now.later.now) growth.now.next.now }
-    ensures { IfOk result (λ yes. IsTrue yes ↔ CanExtend growth.now.web.now growth.now.done.now (growth.now.segment ∷ growth.now.later.now) (at growth.now.next.now)) }
+    requires { IsNext growth.now }
+    ensures { IfOk result (λ yes. IsTrue yes ↔ CanInsert growth.now) }
 {
     let first = 2 * growth.segment;
     if hangs(alloc, growth, first, first + 1)? {
@@ -84,7 +84,7 @@ fn inserts(alloc: Global, growth: &Growth) -> Result<bool, AllocError>
 // Whether the dart d can go to a corner of its node, where the other end is new, and then those that follow.
 #[cycle(grow)]
 fn hangs(alloc: Global, growth: &Growth, d: u32, e: u32) -> Result<bool, AllocError>
-    requires growing { IsGrowing growth.now.web.now growth.now.done.now (growth.now.segment ∷ growth.now.later.now) growth.now.next.now }
+    requires growing { IsNext growth.now }
     requires d_of { d / 2 ≡ growth.now.segment }
     requires e_of { e / 2 ≡ growth.now.segment }
     ensures { IfOk result (λ yes. IsTrue yes ↔ CanHang growth.now d e) }
@@ -107,7 +107,7 @@ fn hangs(alloc: Global, growth: &Growth, d: u32, e: u32) -> Result<bool, AllocEr
 // Whether the two darts can go to corners of one face, and then those that follow.
 #[cycle(grow)]
 fn cuts(alloc: Global, growth: &Growth) -> Result<bool, AllocError>
-    requires { IsGrowing growth.now.web.now growth.now.done.now (growth.now.segment ∷ growth.now.later.now) growth.now.next.now }
+    requires { IsNext growth.now }
     ensures { IfOk result (λ yes. IsTrue yes ↔ CanCut growth.now) }
 {
     for c in 0..2 * growth.web.segments() {
@@ -123,9 +123,9 @@ fn cuts(alloc: Global, growth: &Growth) -> Result<bool, AllocError>
 // The same, where the first dart goes to the corner after c.
 #[cycle(grow)]
 fn cuts_from(alloc: Global, growth: &Growth, c: u32) -> Result<bool, AllocError>
-    requires growing { IsGrowing growth.now.web.now growth.now.done.now (growth.now.segment ∷ growth.now.later.now) growth.now.next.now }
+    requires growing { IsNext growth.now }
     requires c_in { c < 2 * length growth.now.web.now.ends }
-    requires corner { IsCorner growth.now.web.now.ends growth.now.done.now (2 * growth.now.segment) c }
+    requires corner { IsFirstCorner growth.now c }
     ensures { IfOk result (λ yes. IsTrue yes ↔ CanCutFrom growth.now c) }
 {
     let (web, next) = (growth.web, growth.next);
@@ -147,8 +147,8 @@ fn cuts_from(alloc: Global, growth: &Growth, c: u32) -> Result<bool, AllocError>
 // Whether those that follow can go in after the segment.
 #[cycle(grow)]
 fn goes_on(alloc: Global, growth: &Growth, after: &[u32]) -> Result<bool, AllocError>
-    requires { IsGrowing growth.now.web.now (growth.now.segment ∷ growth.now.done.now) growth.now.later.now after.now }
-    ensures { IfOk result (λ yes. IsTrue yes ↔ CanExtend growth.now.web.now (growth.now.segment ∷ growth.now.done.now) growth.now.later.now (at after.now)) }
+    requires { IsDone growth.now after.now }
+    ensures { IfOk result (λ yes. IsTrue yes ↔ CanGoOn growth.now (at after.now)) }
 {
     let mut done = Vec::new(alloc);
     done.push(growth.segment)?;

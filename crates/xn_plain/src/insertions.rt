@@ -1,10 +1,10 @@
 // The parts of a flat insertion: corners, faces, and the rotation with one more dart.
-ghost use Rattle.std.specs.Prelude.{◌≡◌, ◌≢◌, ◌*◌, ◌<◌, ◌↔◌, IfOk, IsTrue, All, length};
-ghost use Rattle.xn_model.specs.Insertion.{IsCorner, StandsAfter, is_old};
+ghost use Rattle.std.specs.Prelude.{◌≡◌, ◌≢◌, ◌*◌, ◌<◌, ◌↔◌, IfOk, IsTrue, length};
+ghost use Rattle.xn_model.specs.Insertion.{IsCorner, is_old};
 ghost use Rattle.xn_model.specs.Lists.{at};
 ghost use Rattle.xn_model.specs.Map.{face_step, tail_of};
 ghost use Rattle.xn_model.specs.Permutation.{Reaches};
-ghost use Rattle.xn_plain.specs.Insertions.{AreSegments, IsListing};
+ghost use Rattle.xn_plain.specs.Insertions.{AreSegments, HasDart, IsListing};
 
 use crate::lists::has;
 use std::alloc::{AllocError, Global};
@@ -71,7 +71,7 @@ pub fn with_dart(
     requires d_in { d < length next.now }
     requires apart { c ≢ d }
     ensures listing { IfOk result (λ after. IsListing web.now after.items) }
-    ensures stands { IfOk result (λ after. StandsAfter (2 * length web.now.ends) d c (at next.now) (at after.items)) }
+    ensures stands { IfOk result (λ after. HasDart web.now d c next.now after.items) }
 {
     let mut after = next.to_vec(alloc)?;
     after[d as usize] = next[c as usize];

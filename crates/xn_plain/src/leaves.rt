@@ -1,11 +1,8 @@
 // The value of a leaf, as far as the values of the variables are known.
-ghost use Rattle.std.specs.Prelude.{◌≡◌, ℕ, ◌<◌, ◌≤◌, pos, ◌-ℤ◌, ◌*ℤ◌, IfOk, All, [], length};
-ghost use Rattle.xn_model.specs.Graph.{edges_of, pairs_of};
-ghost use Rattle.xn_model.specs.Lists.{total};
-ghost use Rattle.xn_kinds.specs.Bound.{leaf_value, part_value, row_at, total_ℤ};
-ghost use Rattle.xn_kinds.specs.Row.{literal, orders_of, pairs_value, turns_value, value_of};
+ghost use Rattle.std.specs.Prelude.{◌≡◌, ◌<◌, ◌≤◌, pos, ◌-ℤ◌, ◌*ℤ◌, IfOk, All, length};
+ghost use Rattle.xn_kinds.specs.Row.{orders_of, pairs_value, turns_value, value_of};
 ghost use Rattle.xn_plain.specs.Known.{Evaluates, known_of};
-ghost use Rattle.xn_plain.specs.Leaf.{AreEdges, IsSmallLeaf, IsSmallPart, IsSmallRow, independent_part, pair_part, turns_along};
+ghost use Rattle.xn_plain.specs.Leaf.{AreEdges, IsSmall, IsSmallPart, IsSmallRow, crossing_pairs, independent_part, pair_part, pairs_in, parts_in, parts_with, turns_along, value_in};
 
 use crate::known::{Known, literal, value_of};
 use crate::lists::has;
@@ -75,7 +72,7 @@ fn parts_with(known: &Known, graph: &Graph, row: &Row, e: u32, edges: &[u32]) ->
     requires e_in { e < length graph.now.ends }
     requires edges_in { AreEdges graph.now edges.now }
     requires few { length edges.now ≤ 1000 }
-    ensures value { Evaluates (known_of known.now) (λ v. total (independent_part graph.now row.now v e) edges.now) result }
+    ensures value { Evaluates (known_of known.now) (parts_with graph.now row.now e edges.now) result }
     ensures small { IfOk result (λ n. n ≤ 1000) }
 {
     let mut sum = 0;
@@ -147,8 +144,8 @@ fn weighed(multiplier: u64, value: u64) -> i128
 
 // The weighted sum of the rows of a leaf.
 fn parts_value(known: &Known, leaf: &Leaf) -> Result<i128, Var>
-    requires { IsSmallLeaf leaf.now.graph.now leaf.now.rows.now leaf.now.parts.now }
-    ensures value { Evaluates (known_of known.now) (λ v. total_ℤ (part_value leaf.now.graph.now leaf.now.rows.now v) leaf.now.parts.now) result }
+    requires { IsSmall leaf.now }
+    ensures value { Evaluates (known_of known.now) (parts_in leaf.now) result }
     ensures small { IfOk result (IsSmallPart 1000) }
 {
     let mut sum = 0;
@@ -161,7 +158,7 @@ fn parts_value(known: &Known, leaf: &Leaf) -> Result<i128, Var>
 
 // The number of these pairs that cross.
 fn crossings_in(known: &Known, pairs: &[(u32, u32)]) -> Result<u64, Var>
-    ensures value { Evaluates (known_of known.now) (λ v. total (λ p. v.crosses p.0 p.1) pairs.now) result }
+    ensures value { Evaluates (known_of known.now) (crossing_pairs pairs.now) result }
     ensures small { IfOk result (λ n. n ≤ length pairs.now) }
 {
     let mut sum = 0;
@@ -184,10 +181,10 @@ fn times(d: u64, number: u64) -> i128
 ///
 /// The pairs are the independent pairs of the graph.
 pub fn leaf_value(known: &Known, leaf: &Leaf, pairs: &[(u32, u32)]) -> Result<i128, Var>
-    requires small { IsSmallLeaf leaf.now.graph.now leaf.now.rows.now leaf.now.parts.now }
-    requires pairs { pairs.now ≡ pairs_of leaf.now.graph.now.ends (edges_of leaf.now.graph.now) }
+    requires small { IsSmall leaf.now }
+    requires pairs { pairs.now ≡ pairs_in leaf.now }
     requires few { length pairs.now ≤ 2000000 }
-    ensures { Evaluates (known_of known.now) (leaf_value leaf.now.graph.now leaf.now.rows.now leaf.now.d leaf.now.parts.now) result }
+    ensures { Evaluates (known_of known.now) (value_in leaf.now) result }
 {
     let crossings = crossings_in(known, pairs)?;
     let parts = parts_value(known, leaf)?;

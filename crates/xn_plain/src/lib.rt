@@ -10,6 +10,8 @@ mod known;
 mod leaves;
 mod lists;
 mod orders;
+mod rotations;
+mod searches;
 mod sizes;
 #[cfg(test)]
 mod tests;
@@ -20,4 +22,5 @@ pub use drawings::is_listed_drawing;
 pub use extensions::extends_by_search;
 pub use known::Given;
 pub use leaves::Leaf;
+pub use searches::{crossing_number_below, has_drawing_within};
 pub use sizes::is_small;

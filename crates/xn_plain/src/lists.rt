@@ -1,5 +1,5 @@
 // Lists of numbers.
-ghost use Rattle.std.specs.Prelude.{◌≡◌, ◌≤◌, IfOk, length};
+ghost use Rattle.std.specs.Prelude.{◌≡◌, ◌≤◌, ◌∷◌, ◌++◌, [], IfOk, length};
 ghost use Rattle.std.specs.List.{range_with_len};
 ghost use Rattle.xn_model.specs.Lists.{at, has, position_in};
 
@@ -37,4 +37,13 @@ pub fn at(list: &[u32], i: usize) -> usize
     ensures { result ≡ at list.now i }
 {
     if i < list.len() { list[i] as usize } else { 0 }
+}
+
+/// The list with one more number.
+pub fn appended(alloc: Global, list: &[u32], x: u32) -> Result<Vec<u32>, AllocError>
+    ensures { IfOk result (λ more. more.items ≡ list.now ++ x ∷ []) }
+{
+    let mut more = list.to_vec(alloc)?;
+    more.push(x)?;
+    Ok(more)
 }

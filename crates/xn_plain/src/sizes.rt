@@ -1,6 +1,6 @@
 // Whether a leaf is small enough for the sum of its rows to fit.
-ghost use Rattle.std.specs.Prelude.{◌≡◌, ◌<◌, ◌↔◌, All, IsTrue, length};
-ghost use Rattle.xn_plain.specs.Leaf.{AreEdges, IsSmallLeaf, IsSmallRow};
+ghost use Rattle.std.specs.Prelude.{◌<◌, ◌↔◌, All, IsTrue};
+ghost use Rattle.xn_plain.specs.Leaf.{AreEdges, IsSmall, IsSmallRow};
 
 use crate::leaves::Leaf;
 use crate::orders::are_short;
@@ -9,7 +9,7 @@ use xn_kinds::Row;
 
 /// Whether a leaf has at most 1,000 parts, each with a row of at most 1,000 edges of the graph and lists as short.
 pub fn is_small(leaf: &Leaf) -> bool
-    ensures { IsTrue result ↔ IsSmallLeaf leaf.now.graph.now leaf.now.rows.now leaf.now.parts.now }
+    ensures { IsTrue result ↔ IsSmall leaf.now }
 {
     leaf.parts.len() <= 1000
         && are_rows(leaf.parts, leaf.rows.len())

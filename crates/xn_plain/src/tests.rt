@@ -21,6 +21,19 @@ const K5: [(u32, u32); 10] = [
     (3, 4),
 ];
 
+/// The edges of K3,3.
+const K33: [(u32, u32); 9] = [
+    (0, 3),
+    (0, 4),
+    (0, 5),
+    (1, 3),
+    (1, 4),
+    (1, 5),
+    (2, 3),
+    (2, 4),
+    (2, 5),
+];
+
 /// The orders in which just these two of count edges cross.
 fn one_crossing(alloc: Global, count: u32, e: u32, f: u32) -> Result<Orders, AllocError> {
     let mut lists = Vec::new(alloc);
@@ -107,5 +120,21 @@ fn the_row_of_two_far_edges_has_its_bounds(rt: HostRuntime) -> Result<(), Fail> 
     assert!(rt; is_small(&leaf));
     assert_eq!(rt; bound_by_search(alloc, &leaf, &open)?, 0);
     assert_eq!(rt; bound_by_search(alloc, &leaf, &crossed)?, 7);
+    Ok(())
+}
+
+/// The crossing number of a graph, where it is below the bound.
+fn found(alloc: Global, nodes: u32, ends: &[(u32, u32)], bound: u32) -> Result<Option<u32>, Fail> {
+    let graph = Graph::make(nodes, ends.to_vec(alloc)?)?;
+    Ok(crossing_number_below(alloc, &graph, bound)?)
+}
+
+#[test]
+fn small_graphs_have_their_crossing_numbers(rt: HostRuntime) -> Result<(), Fail> {
+    let alloc = rt.alloc();
+    assert_eq!(rt; found(alloc, 2, &[(0, 1)], 1)?, Some(0));
+    assert_eq!(rt; found(alloc, 4, &[(0, 1), (2, 3)], 1)?, Some(0));
+    assert_eq!(rt; found(alloc, 3, &[(0, 1), (1, 2), (0, 2)], 1)?, Some(0));
+    assert_eq!(rt; found(alloc, 6, &K33, 1)?, None);
     Ok(())
 }

@@ -1,12 +1,10 @@
 // The planarised graph of orders.
-ghost use Rattle.std.specs.Prelude.{◌≡◌, ◌+◌, ◌*◌, ◌≤◌, ◌<◌, ◌++◌, IfOk, OnOk, filter, length, map};
-ghost use Rattle.std.specs.List.{flat_map};
+ghost use Rattle.std.specs.Prelude.{◌≡◌, ◌+◌, ◌≤◌, ◌<◌, ◌++◌, IfOk, OnOk, length};
 ghost use Rattle.xn_model.specs.Drawing.{order_of};
 ghost use Rattle.xn_model.specs.Graph.{edges_of};
-ghost use Rattle.xn_model.specs.Lists.{has};
 ghost use Rattle.xn_model.specs.Orders.{crossings_of};
-ghost use Rattle.xn_model.specs.Web.{crossing_node, crossing_number_in, segments_of};
-ghost use Rattle.xn_plain.specs.Drawings.{AreShort, through};
+ghost use Rattle.xn_model.specs.Web.{crossing_node, crossing_number_in};
+ghost use Rattle.xn_plain.specs.Drawings.{AreShort, crossings_with, segments_of_all, through};
 
 use crate::lists::has;
 use crate::orders::order;
@@ -46,7 +44,7 @@ fn push_crossings(
     edges: &[u32],
     pairs: &mut Vec<(u32, u32)>,
 ) -> Result<(), AllocError>
-    ensures pairs { OnOk result (pairs.new.items ≡ pairs.old.items ++ filter (λ p. has list.now p.1) (map (λ f. (e, f)) edges.now)) }
+    ensures pairs { OnOk result (pairs.new.items ≡ pairs.old.items ++ crossings_with e list.now edges.now) }
     ensures few { OnOk result (length pairs.new.items ≤ length pairs.old.items + length edges.now) }
 {
     for f in edges {
@@ -96,7 +94,7 @@ pub fn segments(
     requires few { length edges.now ≤ 1000 }
     requires short { AreShort orders.now }
     requires few_pairs { length pairs.now ≤ 1000000 }
-    ensures segments { IfOk result (λ ends. ends.items ≡ flat_map (segments_of graph.now pairs.now (order_of graph.now orders.now)) edges.now) }
+    ensures segments { IfOk result (λ ends. ends.items ≡ segments_of_all graph.now orders.now pairs.now edges.now) }
     ensures few { IfOk result (λ ends. length ends.items ≤ 1001000) }
 {
     let mut ends = Vec::new(alloc);
