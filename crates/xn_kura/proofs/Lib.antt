@@ -12,6 +12,7 @@ mod Pairs
 mod Path
 mod Stages
 mod Tally
+mod Turned
 mod Turns
 mod UsedPaths
 mod Walking
