@@ -8,7 +8,7 @@ use Rattle.xn_model.specs.Evidence.{IsSubdivision, LeadAll, LeadsTo, all_inner, 
 use Rattle.xn_model.specs.Graph.{Graph, ends_at, touches}
 use Rattle.xn_model.specs.Lists.{has}
 use Rattle.xn_kura.proofs.Branches.{place_of}
-use Rattle.xn_kura.proofs.Distinct.{all_not, distinct-apart, distinct-right, has-append}
+use Rattle.xn_kura.proofs.Distinct.{all_not, distinct-apart, distinct-right, has-append, has-left, has-right}
 use Rattle.xn_kura.proofs.MarkedPaths.{All-from_has}
 use Rattle.xn_kura.proofs.Marking.{distinct-push}
 use Rattle.xn_kura.proofs.Stages.{lead_all}
@@ -18,10 +18,10 @@ use Rattle.xn_kura.specs.Laws.{AreSomePaths}
 
 -- ---- lists turned round
 
-reverse-cons : (x : ℕ) (xs : List ℕ) → reverse (x ∷ xs) ≡ reverse xs ++ x ∷ []
+pub reverse-cons : (x : ℕ) (xs : List ℕ) → reverse (x ∷ xs) ≡ reverse xs ++ x ∷ []
 reverse-cons x xs = reverse-append (x ∷ []) xs
 
-has-reverse : (xs : List ℕ) (y : ℕ) → has (reverse xs) y ≡ true → has xs y ≡ true
+pub has-reverse : (xs : List ℕ) (y : ℕ) → has (reverse xs) y ≡ true → has xs y ≡ true
 has-reverse [] y h = h
 has-reverse (x ∷ xs) y h = elim (has-append (reverse xs) (x ∷ []) y (ap (λ zs. has zs y) (sym (reverse-cons x xs)) ∙ h)) [
   | inl earlier ↦ or_right (eqb x y) (has xs y) (has-reverse xs y earlier)
@@ -31,14 +31,22 @@ has-reverse (x ∷ xs) y h = elim (has-append (reverse xs) (x ∷ []) y (ap (λ 
   ]
 ]
 
-distinct-reverse : (xs : List ℕ) → IsDistinct eqb xs → IsDistinct eqb (reverse xs)
+-- and the other way round
+pub has-reversed : (xs : List ℕ) (y : ℕ) → has xs y ≡ true → has (reverse xs) y ≡ true
+has-reversed [] y h = h
+has-reversed (x ∷ xs) y h = ap (λ zs. has zs y) (reverse-cons x xs) ∙ elim (or_cases (eqb x y) (has xs y) h) [
+  | inl here ↦ has-right (reverse xs) (x ∷ []) y (or_left (eqb x y) false here)
+  | inr later ↦ has-left (reverse xs) (x ∷ []) y (has-reversed xs y later)
+]
+
+pub distinct-reverse : (xs : List ℕ) → IsDistinct eqb xs → IsDistinct eqb (reverse xs)
 unfolding IsDistinct
 distinct-reverse [] d = tt
 distinct-reverse (x ∷ xs) d =
     let P : List ℕ → Type 0 = λ zs. IsDistinct eqb zs in
     subst P (sym (reverse-cons x xs)) (distinct-push (reverse xs) x (distinct-reverse xs d.1) (false_from_ne_true _ (λ h. all_not x xs d.0 x (has-reverse xs x h) refl)))
 
-distinct-append : (xs ys : List ℕ) → IsDistinct eqb xs → IsDistinct eqb ys → ((x : ℕ) → has xs x ≡ true → has ys x ≡ true → ⊥) → IsDistinct eqb (xs ++ ys)
+pub distinct-append : (xs ys : List ℕ) → IsDistinct eqb xs → IsDistinct eqb ys → ((x : ℕ) → has xs x ≡ true → has ys x ≡ true → ⊥) → IsDistinct eqb (xs ++ ys)
 unfolding IsDistinct
 distinct-append [] ys one two apart = two
 distinct-append (x ∷ xs) ys one two apart =
@@ -56,7 +64,7 @@ distinct-append (x ∷ xs) ys one two apart =
     others (z ∷ zs) all = (all.0, others zs all.1)
 
 -- what stands in the joined lists stands in one of them
-in_concat : (lists : List (List ℕ)) (x : ℕ) → has (concat lists) x ≡ true → (q : ℕ) × (q < length lists) × (has (path_at lists q) x ≡ true)
+pub in_concat : (lists : List (List ℕ)) (x : ℕ) → has (concat lists) x ≡ true → (q : ℕ) × (q < length lists) × (has (path_at lists q) x ≡ true)
 in_concat [] x h = absurd (both_ways false refl h)
 in_concat (list ∷ lists) x h = elim (has-append list (concat lists) x h) [
   | inl here ↦ (0, omega arith, here)
@@ -104,7 +112,7 @@ module _ (ends : List (ℕ × ℕ)) where
         )
   ]
 
-  turned : (u v : ℕ) (path : List ℕ) → LeadsTo ends u path v → LeadsTo ends v (reverse path) u
+  pub turned : (u v : ℕ) (path : List ℕ) → LeadsTo ends u path v → LeadsTo ends v (reverse path) u
   turned u v [] leads = sym leads
   turned u v (s ∷ path) leads =
       let w = far_end (ends_at ends s) u in
@@ -116,7 +124,7 @@ module _ (ends : List (ℕ × ℕ)) where
   inner-push u w s t [] leads = ap (λ x. x ∷ []) leads.2
   inner-push u w s t (r ∷ path) leads = let x = far_end (ends_at ends t) u in ap (λ zs. x ∷ zs) (inner-push x w s r path leads.2)
 
-  inner-turned : (u v : ℕ) (path : List ℕ) → LeadsTo ends u path v → inner_nodes ends v (reverse path) ≡ reverse (inner_nodes ends u path)
+  pub inner-turned : (u v : ℕ) (path : List ℕ) → LeadsTo ends u path v → inner_nodes ends v (reverse path) ≡ reverse (inner_nodes ends u path)
   inner-turned u v [] leads = refl
   inner-turned u v (s ∷ []) leads = refl
   inner-turned u v (s ∷ t ∷ path) leads =
@@ -163,7 +171,7 @@ length-inners ends branch [] paths same = refl
 length-inners ends branch (p ∷ pairs) [] same = absurd (omega (arith, same))
 length-inners ends branch (p ∷ pairs) (path ∷ paths) same = ap suc (length-inners ends branch pairs paths (omega (arith, same)))
 
-length-lead : (ends : List (ℕ × ℕ)) (branch : List ℕ) (pairs : List (ℕ × ℕ)) (paths : List (List ℕ)) → LeadAll ends branch pairs paths → length paths ≡ length pairs
+pub length-lead : (ends : List (ℕ × ℕ)) (branch : List ℕ) (pairs : List (ℕ × ℕ)) (paths : List (List ℕ)) → LeadAll ends branch pairs paths → length paths ≡ length pairs
 length-lead ends branch [] [] lead = refl
 length-lead ends branch [] (path ∷ paths) lead = absurd lead
 length-lead ends branch (p ∷ pairs) [] lead = absurd lead
