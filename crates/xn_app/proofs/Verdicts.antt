@@ -7,7 +7,7 @@ use Rattle.xn_graph.specs.declared.counts.Euler.{Euler}
 use Rattle.xn_kinds.specs.declared.flaws.DrawFlaw.TheVariants.{Length, Order, Dependent, Rotation, Touch, Genus}
 use Rattle.xn_kinds.specs.declared.flaws.Flaw.{Flaw}
 use Rattle.xn_kinds.specs.declared.flaws.FlawKind.{FlawKind}
-use Rattle.xn_kinds.specs.declared.flaws.FlawKind.TheVariants.{Unread, Draw}
+use Rattle.xn_kinds.specs.declared.flaws.FlawKind.TheVariants.{Unread, Syntax, Number, Loop, SizeDiffers, GraphDiffers, Draw, Count, Row, TreeShape, Weak, Trailing}
 use Rattle.xn_map.specs.Rotation.{IsFirst, IsRotationFlaw}
 use Rattle.xn_proof.specs.Plain.{Plain, front_at, tail_at, drawn_line}
 use Rattle.xn_proof.proofs.Read.{read_is_spelled}
@@ -39,6 +39,16 @@ no_rotation_flaw nodes ends next d map flaw = elim flaw.1 [
 -- turns that are a flat map don't fail
 turns_stand : (p : Plain) (kind : FlawKind) → IsFlatMap (graph_of p) (turns_of p) → TurnsFail p kind → ⊥
 turns_stand p Unread flat fail = fail
+turns_stand p Syntax flat fail = fail
+turns_stand p Number flat fail = fail
+turns_stand p (Loop e) flat fail = fail
+turns_stand p SizeDiffers flat fail = fail
+turns_stand p (GraphDiffers e) flat fail = fail
+turns_stand p (Count said counted) flat fail = fail
+turns_stand p (Row i flaw) flat fail = fail
+turns_stand p (TreeShape n) flat fail = fail
+turns_stand p (Weak bound need) flat fail = fail
+turns_stand p Trailing flat fail = fail
 turns_stand p (Draw Length) flat fail = fail
 turns_stand p (Draw (Order e f)) flat fail = fail
 turns_stand p (Draw (Dependent e f)) flat fail = fail

@@ -4,7 +4,8 @@ use Rattle.std.specs.Io.KnownBytes.{Appends}
 use Rattle.xn_graph.specs.declared.counts.Euler.{Euler}
 use Rattle.xn_kinds.specs.declared.flaws.Flaw.{Flaw}
 use Rattle.xn_app.specs.declared.status.Status.{Status}
-use Rattle.xn_app.specs.Output.{output_of, seen_line, flaw_line}
+use Rattle.xn_proof.specs.Refusal.{flaw_line}
+use Rattle.xn_app.specs.Output.{output_of, seen_line}
 use Rattle.xn_app.specs.Status.{status_of}
 use Rattle.xn_app.specs.Verdict.{Verdict, IsPlainDrawing}
 

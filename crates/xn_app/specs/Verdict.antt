@@ -11,7 +11,7 @@ use Rattle.xn_proof.specs.declared.flaw.AnswerErr.TheVariants as errors
 use Rattle.xn_kinds.specs.declared.flaws.DrawFlaw.TheVariants.{Length, Order, Dependent, Rotation, Touch, Genus}
 use Rattle.xn_kinds.specs.declared.flaws.Flaw.{Flaw}
 use Rattle.xn_kinds.specs.declared.flaws.FlawKind.{FlawKind}
-use Rattle.xn_kinds.specs.declared.flaws.FlawKind.TheVariants.{Unread, Draw}
+use Rattle.xn_kinds.specs.declared.flaws.FlawKind.TheVariants.{Unread, Syntax, Number, Loop, SizeDiffers, GraphDiffers, Draw, Count, Row, TreeShape, Weak, Trailing}
 use Rattle.xn_proof.specs.Plain.{Plain, IsPlain, next_of, drawn_line, front_at, tail_at}
 use Rattle.xn_proof.specs.Spelling.{text_of}
 
@@ -38,6 +38,16 @@ pub record IsPlainDrawing (text : List ℕ) (counts : Euler) : Type 0 where
 -- what can be wrong with the turns
 abbrev pub TurnsFail : Plain → FlawKind → Type 0
 TurnsFail p Unread = ⊥
+TurnsFail p Syntax = ⊥
+TurnsFail p Number = ⊥
+TurnsFail p (Loop e) = ⊥
+TurnsFail p SizeDiffers = ⊥
+TurnsFail p (GraphDiffers e) = ⊥
+TurnsFail p (Count said counted) = ⊥
+TurnsFail p (Row i flaw) = ⊥
+TurnsFail p (TreeShape n) = ⊥
+TurnsFail p (Weak bound need) = ⊥
+TurnsFail p Trailing = ⊥
 TurnsFail p (Draw Length) = ⊥
 TurnsFail p (Draw (Order e f)) = ⊥
 TurnsFail p (Draw (Dependent e f)) = ⊥

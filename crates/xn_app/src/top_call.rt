@@ -1,6 +1,5 @@
 // All that the program does.
 ghost use Rattle.std.specs.Prelude.{◌≡◌, ◌^◌, ◌<◌, ◌≤◌, ◌↔◌, Some, true, IfOk, IfSome};
-ghost use Rattle.std.specs.String.{string_bytes};
 ghost use Rattle.xn_io.specs.Causes.{Rose};
 ghost use Rattle.xn_io.specs.Input.{bytes_of, IsLonger};
 ghost use Rattle.xn_kinds.specs.declared.flaws.Flaw.{Flaw};
@@ -9,11 +8,11 @@ ghost use Rattle.xn_app.specs.Ends.{EndsWith, SaysDrawing, SaysFlaw, WroteFor};
 ghost use Rattle.xn_app.specs.Status.{IsBegun, IsJudged, IsSilent};
 
 use crate::examine::examine;
-use crate::output::{flaw_line, seen_line};
+use crate::output::seen_line;
 use crate::status::{Limit, Status};
 use std::alloc::{AllocError, Global};
 use xn_io::{Input, ReadErr, Sink, read_all, write_all};
-use xn_proof::AnswerErr;
+use xn_proof::{AnswerErr, write_flaw};
 
 // The most bytes of a file.
 const MAX_BYTES: u64 = 1 << 62;
@@ -57,19 +56,19 @@ pub fn top<I: Input, K: Sink>(alloc: Global, words: &[String], input: &mut I, ou
     let Ok((status, line)) = judge(alloc, &text) else {
         return Status::Memory;
     };
-    match write_all(out, line.as_bytes()) {
+    match write_all(out, &line) {
         Ok(()) => status,
         Err(_) => Status::Write,
     }
 }
 
 // The end to which a text leads, and the line that is written.
-fn judge(alloc: Global, text: &[u8]) -> Result<(Status, String), AllocError>
-    ensures { IfOk result (λ x. EndsWith text.now x.0 (string_bytes x.1)) }
+fn judge(alloc: Global, text: &[u8]) -> Result<(Status, Vec<u8>), AllocError>
+    ensures { IfOk result (λ x. EndsWith text.now x.0 x.1.items) }
 {
     match examine(alloc, text) {
         Ok(counts) => Ok((Status::Done, seen_line(alloc, &counts)?)),
-        Err(AnswerErr::Refused(flaw)) => Ok((Status::Refused(flaw), flaw_line(alloc, &flaw)?)),
+        Err(AnswerErr::Refused(flaw)) => Ok((Status::Refused(flaw), write_flaw(alloc, &flaw)?)),
         Err(AnswerErr::Memory) => Err(AllocError),
     }
 }

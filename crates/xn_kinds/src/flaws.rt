@@ -50,13 +50,43 @@ pub enum RowFlaw {
     Extends,
 }
 
-/// What is wrong with a line of an answer.
+/// What is wrong with a line of an answer: of what is wrong with it, the first in this order.
 #[derive(Clone, Copy, Debug, PartialEq, Eq)]
 pub enum FlawKind {
     /// The line isn't of the form that stands there.
     Unread,
+    /// The line isn't of a form that may stand there, or it isn't ended, or it is missing.
+    Syntax,
+    /// A number is outside its range.
+    Number,
+    /// The edge with this number joins a node to itself.
+    Loop(u32),
+    /// The graph has another number of nodes, edges or loops than the input.
+    SizeDiffers,
+    /// The edge with this number isn't the input's, in its direction.
+    GraphDiffers(u32),
     /// The drawing has this flaw.
     Draw(DrawFlaw),
+    /// The drawing has another number of crossings than is said.
+    Count {
+        /// The upper bound of the answer.
+        said: u64,
+        /// The number of crossings of its drawing.
+        counted: u64,
+    },
+    /// The row with this number has this flaw.
+    Row(u32, RowFlaw),
+    /// The tree node with this number, or the end after so many nodes, doesn't go on with the tree.
+    TreeShape(u64),
+    /// The bound of a leaf isn't above what it has to pass.
+    Weak {
+        /// The bound of the leaf.
+        bound: i128,
+        /// The number that it doesn't pass: the divisor, times one less than the lower bound.
+        need: i128,
+    },
+    /// Something stands behind the end.
+    Trailing,
 }
 
 /// The flaw of an answer: its line, from 1 on, and its kind.

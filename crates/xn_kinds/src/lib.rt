@@ -1,6 +1,7 @@
-//! Plain types: drawings, rows with their evidence, proof trees, and what can be wrong with them.
+//! Plain types: drawings, rows with their evidence, proof trees, answers, and what can be wrong with them.
 #![tactic(auto)]
 
+mod answers;
 mod drawings;
 mod flaws;
 pub mod laws;
@@ -9,6 +10,7 @@ mod rows;
 mod tests;
 mod trees;
 
+pub use answers::Answer;
 pub use drawings::{Drawing, Orders};
 pub use flaws::{DrawFlaw, EvidenceFlaw, Flaw, FlawKind, RowFlaw};
 pub use rows::{Evidence, Paths, Row};

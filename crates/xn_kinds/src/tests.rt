@@ -1,6 +1,7 @@
 use super::*;
 use std::alloc::{AllocError, Global};
 use std::test::Fail;
+use xn_graph::Graph;
 use xn_list::Sequence;
 
 /// Lists of one number each.
@@ -62,4 +63,31 @@ fn trees_are_copied(rt: HostRuntime) -> Result<(), Fail> {
         return Ok(());
     }
     Err("another kind of node")?
+}
+
+#[test]
+fn answers_are_copied(rt: HostRuntime) -> Result<(), Fail> {
+    let Ok(graph) = Graph::make(2, [(0, 1)].to_vec(rt.alloc())?) else {
+        return Err("no graph")?;
+    };
+    let orders = Orders::new(Vec::new(rt.alloc()));
+    let next = Sequence::new([0, 1].to_vec(rt.alloc())?);
+    let copy = Answer {
+        graph,
+        loops: 3,
+        lower: 1,
+        upper: 2,
+        spent: 4,
+        budget: 5,
+        drawing: Drawing { orders, next },
+        rows: Sequence::new(Vec::new(rt.alloc())),
+        tree: Tree::new(vec![in rt.alloc(); Node::Pair(10, 11)]?),
+    }
+    .copy(rt.alloc())?;
+    assert_eq!(rt; copy.graph.edges(), 1);
+    assert_eq!(rt; copy.upper, 2);
+    assert_eq!(rt; copy.drawing.next.as_slice(), [0, 1].as_slice());
+    assert_eq!(rt; copy.rows.len(), 0);
+    assert_eq!(rt; copy.tree.len(), 1);
+    Ok(())
 }

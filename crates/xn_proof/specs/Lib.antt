@@ -1,4 +1,5 @@
 pub mod Laws
 pub mod Plain
 pub mod Reading
+pub mod Refusal
 pub mod Spelling

@@ -5,6 +5,8 @@ mod flaw;
 pub mod laws;
 mod lines;
 mod plain;
+mod refusal;
 
 pub use flaw::AnswerErr;
 pub use plain::{Front, read_front, read_tail};
+pub use refusal::write_flaw;

@@ -1,6 +1,5 @@
 use Rattle.std.proofs.Common.{ℕ, List, rules}
 use Rattle.std.specs.Io.KnownBytes.{Appends}
-use Rattle.std.specs.String.{string_bytes}
 use Rattle.xn_io.specs.Input.{AreAllOf}
 use Rattle.xn_app.specs.Command.{file_of}
 use Rattle.xn_app.specs.Ends.{EndsWith, SaysDrawing, SaysFlaw}
@@ -13,7 +12,7 @@ returns-in-Ok-write_all-clause-done g c =
     let old = g.K.Sink.taken c.args.out.now in
     let new = g.K.Sink.taken c.write_all.new.sink in
     let text = c.in-Ok-read_all.text.items in
-    let line = string_bytes c.in-Ok-judge.line in
+    let line = c.in-Ok-judge.line.items in
     let read : AreAllOf (g.I.Input.told c.args.input.now) (file_of c.args.words.now) text = search rules in
     let ends : EndsWith text c.in-Ok-judge.status line = search rules in
     let written : Appends old new line = search rules in
@@ -25,7 +24,7 @@ returns-in-Ok-write_all-clause-refused g c =
     let old = g.K.Sink.taken c.args.out.now in
     let new = g.K.Sink.taken c.write_all.new.sink in
     let text = c.in-Ok-read_all.text.items in
-    let line = string_bytes c.in-Ok-judge.line in
+    let line = c.in-Ok-judge.line.items in
     let read : AreAllOf (g.I.Input.told c.args.input.now) (file_of c.args.words.now) text = search rules in
     let ends : EndsWith text c.in-Ok-judge.status line = search rules in
     let written : Appends old new line = search rules in
