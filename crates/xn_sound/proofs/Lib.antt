@@ -1,0 +1,3 @@
+mod Leaves
+mod Placed
+mod Trees
