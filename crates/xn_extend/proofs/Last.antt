@@ -2,13 +2,14 @@
 use Rattle.std.proofs.Common.{◌≡◌, ◌≢◌, ℕ, zero, suc, ◌+◌, ◌*◌, ◌/◌, ◌<◌, ◌⊎◌, inl, inr, Bool, true, false, ◌||◌, eqb, List, ◌∷◌, length, refl, sym, ◌∙◌, ap, arith}
 use Rattle.std.proofs.lemmas.Bool.{both_ways, cases_Bool, cases_eq, eq-eqb, eqb-true, or_cases, or_left, or_right}
 use Rattle.xn_extend.proofs.Cut.{IsCut, IsCut-turned, IsCut-without}
+use Rattle.xn_extend.proofs.Pair.{ArePair, ArePair-darts, ArePair-turned}
 use Rattle.xn_extend.proofs.Old.{AreIn, IsGrown, old_dart, old_from_dart}
 use Rattle.xn_genus.proofs.Counts.{Permutes-face, stays_alone}
 use Rattle.xn_genus.proofs.Dies.{components_stay, faces_rise}
 use Rattle.xn_genus.proofs.Euler.{dies, dies-other, flat_dies}
 use Rattle.xn_genus.proofs.Kept.{EndsIn-kept, along_kept_to, along_labels}
 use Rattle.xn_genus.specs.Live.{IsFlatOn, IsMapOn, kept, without_segment}
-use Rattle.xn_model.proofs.Darts.{cases_dart, reverse-even, reverse-odd, reverse-reverse, tail-even, tail-odd}
+use Rattle.xn_model.proofs.Darts.{reverse-reverse, tail-even, tail-odd}
 use Rattle.xn_model.specs.Graph.{EndsIn, HasNoLoop, ends_at}
 use Rattle.xn_model.specs.Insertion.{CutsFace, FlatInsertion, HangsAt, IsCorner, is_old}
 use Rattle.xn_model.specs.Lists.{at, has}
@@ -16,43 +17,6 @@ use Rattle.xn_model.specs.Map.{component_labels, face_step, reverse_of, tail_of}
 use Rattle.xn_model.specs.Permutation.{Permutes, Reaches, iterate, without}
 use Rattle.xn_ring.proofs.Orbits.{comes_back, iterate-step, reaches_back, reaches_step, source_of}
 use Rattle.xn_ring.proofs.Without.{without-at, without-before, without-other}
-
--- d and e are the darts of s, at two nodes
-pub record ArePair (ends : List (ℕ × ℕ)) (s d e : ℕ) : Type 0 where
-  pub first_in : d < 2 * length ends
-  pub second_in : e < 2 * length ends
-  pub first_half : d / 2 ≡ s
-  pub second_half : e / 2 ≡ s
-  pub only : (x : ℕ) → x / 2 ≡ s → (x ≡ d) ⊎ (x ≡ e)
-  pub turns : reverse_of d ≡ e
-  pub turns_back : reverse_of e ≡ d
-  pub two_nodes : tail_of ends d ≢ tail_of ends e
-
-pub ArePair-turned : (ends : List (ℕ × ℕ)) (s d e : ℕ) → ArePair ends s d e → ArePair ends s e d
-ArePair-turned ends s d e pair = record {
-  first_in = pair.second_in;
-  second_in = pair.first_in;
-  first_half = pair.second_half;
-  second_half = pair.first_half;
-  only = λ x half. elim (pair.only x half) [ inl first ↦ inr first | inr second ↦ inl second ];
-  turns = pair.turns_back;
-  turns_back = pair.turns;
-  two_nodes = λ same. pair.two_nodes (sym same);
-}
-
-pub ArePair-darts : (ends : List (ℕ × ℕ)) (s : ℕ) → s < length ends → (ends_at ends s).0 ≢ (ends_at ends s).1 → ArePair ends s (2 * s) (2 * s + 1)
-ArePair-darts ends s s_in apart = record {
-  first_in = omega (arith, s_in);
-  second_in = omega (arith, s_in);
-  first_half = omega arith;
-  second_half = omega arith;
-  only = λ x half.
-      let c = cases_dart x in
-      elim c.1 [ inl even ↦ inl (omega (arith, even, half)) | inr odd ↦ inr (omega (arith, odd, half)) ];
-  turns = reverse-even s;
-  turns_back = reverse-odd s;
-  two_nodes = λ same. apart (sym (tail-even ends s) ∙ same ∙ tail-odd ends s);
-}
 
 -- what leads to d is a dart of a segment that is in
 pub record HasCorner (ends : List (ℕ × ℕ)) (done : List ℕ) (after : ℕ → ℕ) (d e : ℕ) : Type 0 where
@@ -271,7 +235,7 @@ module _ (nodes : ℕ) (ends : List (ℕ × ℕ)) (ends_in : EndsIn nodes ends) 
       ∙ has_last.live_is j ∙ or_right (eqb s j) (has done j) is
 
   -- the old nodes are in one component
-  one_label : (u v : ℕ) → is_old ends done u ≡ true → is_old ends done v ≡ true → at (component_labels nodes left) u ≡ at (component_labels nodes left) v
+  pub one_label : (u v : ℕ) → is_old ends done u ≡ true → is_old ends done v ≡ true → at (component_labels nodes left) u ≡ at (component_labels nodes left) v
   one_label u v u_old v_old =
       let m = at (component_labels nodes left) in
       let t = grown.tied m (λ j is. along_kept_to m (dies s live) ends (along_labels nodes left (EndsIn-kept nodes (dies s live) ends ends_in))

@@ -1,14 +1,18 @@
 -- Insertions in the order of a list reach each flat map of its segments.
 use Rattle.std.proofs.Common.{◌≡◌, ℕ, ◌+◌, ◌*◌, ◌/◌, ◌<◌, inl, inr, Bool, true, false, ◌||◌, eqb, List, [], ◌∷◌, length, refl, sym, ◌∙◌, ap}
 use Rattle.std.proofs.lemmas.Bool.{both_ways, cases_Bool, cases_eq, eqb-true, ne_eqb, or_cases}
-use Rattle.xn_extend.proofs.Last.{ArePair-darts, ArePair-turned, HasLast, alone, last_is_inserted, last_lives}
+use Rattle.xn_extend.proofs.Last.{HasLast, alone, last_is_inserted, last_lives}
+use Rattle.xn_extend.proofs.Pair.{ArePair-darts, ArePair-turned}
+use Rattle.xn_extend.proofs.UpTo.{IsFlatUpTo, IsFlatUpTo-by, IsFlatUpTo-same}
+use Rattle.xn_extend.proofs.First.{IsFlatUpTo-first}
+use Rattle.xn_extend.proofs.Inserted.{inserted}
 use Rattle.xn_extend.proofs.Old.{IsGrown, IsGrown-first, IsGrown-more}
 use Rattle.xn_extend.proofs.Same.{Extends-same}
-use Rattle.xn_extend.specs.Laws.{FlatMapsOfAListAreReached, FlatMapsRestrictToInsertions, StuckMeansNoFlatMap}
+use Rattle.xn_extend.specs.Laws.{FlatMapsOfAListAreReached, FlatMapsRestrictToInsertions, ReachedMapsAreFlat, StuckMeansNoFlatMap}
 use Rattle.xn_genus.proofs.Dies.{IsMapOn-deleted}
 use Rattle.xn_genus.proofs.Euler.{dies, dies-at, dies-other, flat_dies}
 use Rattle.xn_genus.proofs.Restrict.{restricted_flat, restricted_map}
-use Rattle.xn_genus.specs.Live.{IsFlatOn, IsMapOn, passing_over, without_segment}
+use Rattle.xn_genus.specs.Live.{passing_over, without_segment}
 use Rattle.xn_model.specs.Graph.{EndsIn, HasNoLoop}
 use Rattle.xn_model.specs.Insertion.{Extends, Follow}
 use Rattle.xn_model.specs.Lists.{has}
@@ -28,12 +32,14 @@ has-all_in done (s ∷ rest) i = has-all_in (s ∷ done) rest i ∙ regroup (has
     regroup false true c = refl
     regroup false false c = refl
 
--- a flat map of the segments that are in
-record IsFlatUpTo (nodes : ℕ) (ends : List (ℕ × ℕ)) (done : List ℕ) (last : ℕ → ℕ) : Type 0 where
-  live : ℕ → Bool
-  live_is : (i : ℕ) → live i ≡ has done i
-  map : IsMapOn ends live last
-  flat : IsFlatOn nodes ends live last
+has-listed : (s : ℕ) (rest : List ℕ) (i : ℕ) → has (s ∷ rest) i ≡ has (all_in (s ∷ []) rest) i
+has-listed s rest i = first_last (eqb s i) (has rest i) ∙ sym (has-all_in (s ∷ []) rest i)
+  where
+    first_last : (a b : Bool) → (a || b) ≡ (b || (a || false))
+    first_last true true = refl
+    first_last true false = refl
+    first_last false true = refl
+    first_last false false = refl
 
 -- insertions lead to it from one of the first segments
 record ComesFrom (nodes : ℕ) (ends : List (ℕ × ℕ)) (done rest : List ℕ) (last : ℕ → ℕ) : Type 0 where
@@ -87,18 +93,28 @@ flat_maps_are_reached nodes ends (s ∷ rest) last ends_in no_loop grows map fla
     let grown = IsGrown-first ends s grows.0 in
     let from = back nodes ends ends_in no_loop (s ∷ []) rest grows.1 grown last (record {
       live = has (s ∷ rest);
-      live_is = λ i. first_last (eqb s i) (has rest i) ∙ sym (has-all_in (s ∷ []) rest i);
+      live_is = has-listed s rest;
       map = map;
       flat = flat;
     }) in
     Extends-same ends (s ∷ []) grown.are_in from.start (λ d. d) from.is_flat.map.permutes
     (λ d d_in. sym (one_segment nodes ends ends_in no_loop s grows.0 from.start from.is_flat d d_in)) rest last from.extends
-  where
-    first_last : (a b : Bool) → (a || b) ≡ (b || (a || false))
-    first_last true true = refl
-    first_last true false = refl
-    first_last false true = refl
-    first_last false false = refl
+
+-- inserted one after another
+module _ (nodes : ℕ) (ends : List (ℕ × ℕ)) (ends_in : EndsIn nodes ends) (no_loop : HasNoLoop ends) where
+  forth : (done rest : List ℕ) → Follow ends done rest → IsGrown ends done → (start last : ℕ → ℕ) → IsFlatUpTo nodes ends done start →
+      Extends ends done rest start last → IsFlatUpTo nodes ends (all_in done rest) last
+  forth done [] follow grown start last is all = IsFlatUpTo-same nodes ends done start last is all
+  forth done (s ∷ rest) follow grown start last is all =
+      forth (s ∷ done) rest follow.3 (IsGrown-more ends done s follow.0 follow.2 grown) all.0 last
+      (inserted nodes ends ends_in no_loop done grown s follow.0 follow.1 start is all.0 all.1) all.2
+
+pub reached_maps_are_flat : ReachedMapsAreFlat
+reached_maps_are_flat nodes ends [] last ends_in no_loop grows reached = absurd reached
+reached_maps_are_flat nodes ends (s ∷ rest) last ends_in no_loop grows reached =
+    let is = forth nodes ends ends_in no_loop (s ∷ []) rest grows.1 (IsGrown-first ends s grows.0) (λ d. d) last
+    (IsFlatUpTo-first nodes ends ends_in no_loop s grows.0) reached in
+    IsFlatUpTo-by nodes ends (has (s ∷ rest)) (all_in (s ∷ []) rest) last is (has-listed s rest)
 
 pub flat_maps_restrict : FlatMapsRestrictToInsertions
 flat_maps_restrict web list next no_loop grows is =

@@ -1,6 +1,6 @@
 -- Insertions into rotations that agree.
-use Rattle.std.proofs.Common.{◌≡◌, ℕ, ◌+◌, ◌*◌, ◌/◌, ◌<◌, inl, inr, List, [], ◌∷◌, length, sym, ◌∙◌, ap, arith}
-use Rattle.xn_extend.proofs.Old.{AreIn}
+use Rattle.std.proofs.Common.{◌≡◌, ℕ, ◌+◌, ◌*◌, ◌<◌, inl, inr, List, [], ◌∷◌, length, sym, ◌∙◌, ap}
+use Rattle.xn_extend.proofs.Old.{AreIn, corner_in}
 use Rattle.xn_genus.proofs.Counts.{Permutes-face}
 use Rattle.xn_model.proofs.Darts.{reverse_below}
 use Rattle.xn_model.specs.Insertion.{CutsFace, Extends, FlatInsertion, HangsAt, IsCorner, StandsAfter}
@@ -10,13 +10,10 @@ use Rattle.xn_ring.proofs.Agreeing.{iterate-agrees}
 
 module _ (ends : List (ℕ × ℕ)) (done : List ℕ) (are_in : AreIn ends done) (f g : ℕ → ℕ) (permutes : Permutes (2 * length ends) f)
     (same : (d : ℕ) → d < 2 * length ends → g d ≡ f d) where
-  corner_in : (d c : ℕ) → IsCorner ends done d c → c < 2 * length ends
-  corner_in d c is = let half = are_in (c / 2) is.in_map in omega (arith, half)
-
   stands-same : (d c : ℕ) (after : ℕ → ℕ) → IsCorner ends done d c → StandsAfter (2 * length ends) d c f after → StandsAfter (2 * length ends) d c g after
   stands-same d c after is stands = record {
     follows = stands.follows;
-    leads_on = stands.leads_on ∙ sym (same c (corner_in d c is));
+    leads_on = stands.leads_on ∙ sym (same c (corner_in ends done are_in d c is));
     others = λ x x_in not_c not_d. stands.others x x_in not_c not_d ∙ sym (same x x_in);
   }
 
@@ -31,8 +28,8 @@ module _ (ends : List (ℕ × ℕ)) (done : List ℕ) (are_in : AreIn ends done)
   cuts-same : (s : ℕ) (after : ℕ → ℕ) → CutsFace ends done s f after → CutsFace ends done s g after
   cuts-same s after cuts =
       let n = 2 * length ends in
-      let a_in = corner_in (2 * s) cuts.first cuts.is_first in
-      let b_in = corner_in (2 * s + 1) cuts.second cuts.is_second in
+      let a_in = corner_in ends done are_in (2 * s) cuts.first cuts.is_first in
+      let b_in = corner_in ends done are_in (2 * s + 1) cuts.second cuts.is_second in
       let k = cuts.one_face.0 in
       let walk = iterate-agrees n (face_step f) (face_step g) (Permutes-face (length ends) f permutes)
       (λ d d_in. same (reverse_of d) (reverse_below (length ends) d d_in)) (f cuts.first) k (permutes.below cuts.first a_in) in

@@ -12,6 +12,12 @@ FlatMapsOfAListAreReached =
     (nodes : ℕ) (ends : List (ℕ × ℕ)) (list : List ℕ) (last : ℕ → ℕ) → EndsIn nodes ends → HasNoLoop ends → GrowsFromFirst ends list →
     IsMapOn ends (has list) last → IsFlatOn nodes ends (has list) last → ReachesEnd ends list last
 
+-- and nothing else: what they reach is a flat map of the listed segments
+abbrev pub ReachedMapsAreFlat : Type 0
+ReachedMapsAreFlat =
+    (nodes : ℕ) (ends : List (ℕ × ℕ)) (list : List ℕ) (last : ℕ → ℕ) → EndsIn nodes ends → HasNoLoop ends → GrowsFromFirst ends list →
+    ReachesEnd ends list last → IsMapOn ends (has list) last × IsFlatOn nodes ends (has list) last
+
 -- so they reach what a flat map is on the listed segments, with the darts of the others passed over
 abbrev pub FlatMapsRestrictToInsertions : Type 0
 FlatMapsRestrictToInsertions =
