@@ -60,17 +60,16 @@ fn replace(map: &mut Map, d: u32) -> Result<bool, AllocError> {
     Ok(true)
 }
 
-/// Goes through the darts in long steps, and counts the rounds that were made.
-fn replace_many(map: &mut Map) -> Result<u32, AllocError> {
+/// Goes through the darts in long steps. Answers whether each round was made.
+fn replace_many(map: &mut Map) -> Result<bool, AllocError> {
     let mut d = 0;
-    let mut made = 0;
     for _ in 0..ROUNDS {
-        if replace(map, d)? {
-            made = (made + 1) % (ROUNDS + 1);
+        if !replace(map, d)? {
+            return Ok(false);
         }
         d = (d % (2 * SEGMENTS) + 123_457) % (2 * SEGMENTS);
     }
-    Ok(made)
+    Ok(true)
 }
 
 fn main(rt: HostRuntime) -> io::Result<()> {
@@ -79,10 +78,10 @@ fn main(rt: HostRuntime) -> io::Result<()> {
         return Ok(());
     };
     let start = Instant::now(&rt)?;
-    let made = replace_many(&mut map)?;
+    let all = replace_many(&mut map)?;
     let milliseconds = start.elapsed(&rt)?.as_millis();
     let flat = map.is_flat(rt.alloc())?;
-    println!(rt; "{made} of {ROUNDS} rounds in {milliseconds} ms; segments {}, flat {flat}", map.web().segments())?;
+    println!(rt; "{ROUNDS} rounds in {milliseconds} ms, all made: {all}, flat: {flat}, segments: {}", map.web().segments())?;
     Ok(())
 }
 """
