@@ -116,7 +116,9 @@ pub fn pivot(table: &mut Table, leaving: Leaving, entering: Entering) -> Result<
     for basic in table.basics.iter_mut() {
         let factor = take_entry(basic.line.as_mut_slice(), entering.place);
         if !is_zero(factor) {
-            basic.value = basic.value.add(factor.mul(step)?)?;
+            if !is_zero(step) {
+                basic.value = basic.value.add(factor.mul(step)?)?;
+            }
             add_times(basic.line.as_mut_slice(), factor, line.as_slice())?;
         }
     }
