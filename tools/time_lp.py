@@ -7,11 +7,11 @@ shapes below 2^31 (40 rounds of 50,000 calls each); `large` solves one program o
 that the process held. Remove FOLDER afterwards.
 """
 
-import os
 import pathlib
 import shutil
 import subprocess
 import sys
+import time
 
 CALLS = '''// Times the calls of Frac over varied numbers below 2^31.
 #![tactic(auto)]
@@ -305,6 +305,15 @@ def build(folder, name):
     return program
 
 
+def held(process):
+    """The most memory that the process has held."""
+    try:
+        status = pathlib.Path(f"/proc/{process}/status").read_text()
+    except FileNotFoundError:
+        return None
+    return next((line.split(":")[1].strip() for line in status.splitlines() if line.startswith("VmHWM")), None)
+
+
 def main():
     folder = pathlib.Path(sys.argv[1])
     here = pathlib.Path(__file__).resolve().parent.parent
@@ -317,8 +326,11 @@ def main():
     program = build(folder, "large")
     for size in ("hundred", "sparse", "tight", "wide"):
         child = subprocess.Popen([program, size])
-        _, _, usage = os.wait4(child.pid, 0)
-        print(f"{size}: {usage.ru_utime:.2f} s of processor, at most {usage.ru_maxrss} kB", flush=True)
+        most = "too short to see"
+        while child.poll() is None:
+            most = held(child.pid) or most
+            time.sleep(0.01)
+        print(f"{size}: memory at most {most}", flush=True)
 
 
 main()
