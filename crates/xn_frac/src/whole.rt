@@ -144,12 +144,16 @@ pub fn scaled(n: i128, k: u128) -> Option<i128>
     Some(with_sign(n < 0, size))
 }
 
-/// Whether a / b is below c / d. Where the whole parts agree, the parts that are left are compared, each turned over.
+/// Whether a / b is below c / d. Short numbers are compared by two products; of others the whole parts are compared and,
+/// where these agree, the parts that are left, each turned over.
 pub fn is_below(a: u128, b: u128, c: u128, d: u128) -> bool
     requires left { 0 < b }
     requires right { 0 < d }
     ensures { IsTrue result ↔ (a * d < c * b) }
 {
+    if a < 1 << 63 && b < 1 << 63 && c < 1 << 63 && d < 1 << 63 {
+        return a * d < c * b;
+    }
     let (mut p, mut q, mut r, mut s) = (a, b, c, d);
     loop {
         let (left, right) = (p / q, r / s);

@@ -69,7 +69,7 @@ pub fn best_entering(
         }
         let choice = Choice {
             entering: Entering { place, slope },
-            ratio: size(entry(table.prices.as_slice(), place).div(slope)?)?,
+            ratio: ratio_of(entry(table.prices.as_slice(), place), slope)?,
             variable: nonbasic.variable,
         };
         if best.is_none_or(|other| is_better(choice, other)) {
@@ -84,6 +84,16 @@ fn brings_back(nonbasic: Nonbasic, slope: Frac, is_above: bool) -> bool
     ensures { IsTrue result → slope.num ≢ pos 0 }
 {
     slope.num() != 0 && (slope.num() > 0) != (nonbasic.at_upper != is_above)
+}
+
+// The size of the price for each unit of the leaving variable.
+fn ratio_of(price: Frac, slope: Frac) -> Result<Frac, Wide>
+    requires { slope.num ≢ pos 0 }
+{
+    if is_zero(price) {
+        return Ok(zero());
+    }
+    size(price.div(slope)?)
 }
 
 // The absolute value.
