@@ -4,7 +4,7 @@ ghost use Rattle.std.specs.Int.{IsGcd, is_negative};
 ghost use Rattle.xn_frac.specs.Ratio.{plus, times, CanAdd, IsFracOf, signed};
 ghost use Rattle.xn_frac.specs.Small.{IsShort};
 
-use crate::whole::short_gcd;
+use crate::whole::{short_gcd, short_gcds};
 
 /// The sum of a / b and c / d in lowest terms. What the numerator and the denominator over the common part of b and d
 /// have in common is in that part too (Knuth, The Art of Computer Programming, volume 2, 4.5.1).
@@ -30,8 +30,7 @@ pub fn product(a: i64, b: u64, c: i64, d: u64) -> (i64, u64)
     ensures bound { unsigned_abs result.0 < 2 ^ 63 }
 {
     let (left_size, right_size) = (a.unsigned_abs(), c.unsigned_abs());
-    let first = short_gcd(left_size, d);
-    let second = short_gcd(right_size, b);
+    let (first, second) = short_gcds(left_size, d, right_size, b);
     let size = quotient(left_size, first) * quotient(right_size, second);
     let den = quotient(b, second) * quotient(d, first);
     (with_sign((a < 0) != (c < 0), size), den)

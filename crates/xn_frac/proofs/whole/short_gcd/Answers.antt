@@ -9,15 +9,11 @@ returns-then-a-eq1 c = elim c.then-a-eq1.branch [
   | then-a-eq1-via-else-a-eq1+then-b-eq1 w ↦ gcd_one _ _ (inr w.if-b-eq1.true)
 ]
 
-pub odd_gcd-requires-clause-left : goal.odd_gcd-requires-clause-left
-odd_gcd-requires-clause-left c =
-    let above : 0 < c.args.a = omega (arith, c.if-a-eq0.false) in
-    (odd_part c.args.a above c.ranges.a.fits).1
-
-pub odd_gcd-requires-clause-right : goal.odd_gcd-requires-clause-right
-odd_gcd-requires-clause-right c =
-    let above : 0 < c.args.b = omega (arith, c.if-b-eq0.false) in
-    (odd_part c.args.b above c.ranges.b.fits).1
+pub odd_gcd-requires : goal.odd_gcd-requires
+odd_gcd-requires c =
+    let above_a : 0 < c.args.a = omega (arith, c.if-a-eq0.false) in
+    let above_b : 0 < c.args.b = omega (arith, c.if-b-eq0.false) in
+    ((odd_part c.args.a above_a c.ranges.a.fits).1, (odd_part c.args.b above_b c.ranges.b.fits).1)
 
 pub returns : goal.returns
 returns c =
