@@ -1,2 +1,6 @@
+pub mod Latest
 pub mod Listing
+pub mod Live
 pub mod Misfits
+pub mod Searching
+pub mod Swapped

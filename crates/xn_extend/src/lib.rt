@@ -1,6 +1,10 @@
 //! Evidence by flat insertions: lists of segments, and the search for a flat map of the listed segments.
 #![tactic(auto)]
 
+mod darts;
+mod earlier;
+mod faces;
 mod lists;
+mod search;
 
 pub use lists::list_flaw;
