@@ -1,6 +1,12 @@
+pub mod Corners
+pub mod Ending
+pub mod FaceKept
 pub mod Latest
+pub mod Led
 pub mod Listing
 pub mod Live
 pub mod Misfits
+pub mod Reached
 pub mod Searching
+pub mod Shown
 pub mod Swapped

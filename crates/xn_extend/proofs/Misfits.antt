@@ -37,6 +37,26 @@ any_at p (x ∷ xs) h = elim (or_cases (p x) (list_any p xs) h) [
   | inr later ↦ let found = any_at p xs later in (suc found.0, omega (arith, found.1), found.2)
 ]
 
+-- different numbers below n are at most n
+pub few_different : (list : List ℕ) (p n : ℕ) → p ≤ length list → ((i : ℕ) → i < p → at list i < n) → ((i j : ℕ) → i < j → j < p → at list i ≢ at list j) → p ≤ n
+few_different list p n within low differ =
+    let front = take p list in
+    let size : length front ≡ p = length-take-le p list within in
+    let distinct : IsDistinct eqb front = IsDistinct-from_apart eqb front (λ i j d before below.
+    let i_in : i < p = omega (arith, before, below, size) in
+    let j_in : j < p = omega (arith, below, size) in
+    ne_eqb _ _ (λ same. differ i j before j_in (read i d i_in ∙ same ∙ sym (read j d j_in)))) in
+    let below_n : (q : ℕ) → list_any (eqb q) front ≡ true → q < n = λ q h.
+    let found = any_at (eqb q) front h in
+    let j_in : found.0 < p = omega (arith, found.1, size) in
+    let is : q ≡ at list found.0 = eqb-true q (at front found.0) found.2 ∙ sym (read found.0 0 j_in) in
+    omega (arith, is, low found.0 j_in) in
+    let bound = length-le_from_distinct_below front n distinct below_n in
+    omega (arith, bound, size)
+  where
+    read : (i d : ℕ) → i < p → at list i ≡ get_or (take p list) i d
+    read i d below = sym (get_or_default_zero list i d (omega (arith, below, within))) ∙ sym (get_or-take p list i d below)
+
 module _ (web : Graph) (list : List ℕ) (p : ℕ) (used met : List Bool) (marked : FrontMarked web list p used met) where
   abbrev s : ℕ
   s = at list p
@@ -93,22 +113,12 @@ module _ (web : Graph) (list : List ℕ) (p : ℕ) (used met : List Bool) (marke
   -- few segments are passed, since they differ
   pub few_passed : length web.ends ≤ 2 ^ 30 → p ≤ length list → p ≤ 2 ^ 30
   few_passed few within =
-      let front = take p list in
-      let size : length front ≡ p = length-take-le p list within in
-      let distinct : IsDistinct eqb front = IsDistinct-from_apart eqb front (λ i j d before below.
-      let i_in : i < p = omega (arith, before, below, size) in
-      let j_in : j < p = omega (arith, below, size) in
-      ne_eqb _ _ (λ same. marked.fit j j_in (inr (inl (i, before, read i d i_in ∙ same ∙ sym (read j d j_in)))))) in
-      let low : (q : ℕ) → list_any (eqb q) front ≡ true → q < length web.ends = λ q h.
-      let found = any_at (eqb q) front h in
-      let j_in : found.0 < p = omega (arith, found.1, size) in
-      let is : q ≡ at list found.0 = eqb-true q (at front found.0) found.2 ∙ sym (read found.0 0 j_in) in
-      elim (cases_lt (at list found.0) (length web.ends)) [ inl below ↦ omega (arith, is, below) | inr far ↦ absurd (marked.fit found.0 j_in (inl far)) ] in
-      let bound = length-le_from_distinct_below front (length web.ends) distinct low in
-      omega (arith, bound, size, few)
-    where
-      read : (i d : ℕ) → i < p → at list i ≡ get_or (take p list) i d
-      read i d below = sym (get_or_default_zero list i d (omega (arith, below, within))) ∙ sym (get_or-take p list i d below)
+      let low : (i : ℕ) → i < p → at list i < length web.ends = λ i i_in. elim (cases_lt (at list i) (length web.ends)) [
+        | inl below ↦ below
+        | inr far ↦ absurd (marked.fit i i_in (inl far))
+      ] in
+      let bound = few_different list p (length web.ends) within low (λ i j before j_in same. marked.fit j j_in (inr (inl (i, before, same)))) in
+      omega (arith, bound, few)
 
   pub FrontMarked-more : u < web.nodes → v < web.nodes → ¬ (IsMisfit web.ends list p) → FrontMarked web list (p + 1) (set used s true) (set (set met u true) v true)
   FrontMarked-more u_in v_in fits =

@@ -3,8 +3,10 @@
 
 mod darts;
 mod earlier;
+mod extending;
 mod faces;
 mod lists;
 mod search;
 
+pub use extending::{Extended, extend};
 pub use lists::list_flaw;
