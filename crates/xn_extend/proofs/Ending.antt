@@ -1,25 +1,29 @@
 -- What the search says of the listed segments.
-use Rattle.std.proofs.Common.{◌≡◌, ◌≢◌, ℕ, zero, suc, ◌+◌, ◌*◌, ◌<◌, ◌≤◌, ◌^◌, inl, inr, List, [], ◌∷◌, length, refl, sym, ap, subst, ◌∙◌, arith}
+use Rattle.std.proofs.Common.{◌≡◌, ◌≢◌, ◌==◌, true, ℕ, zero, suc, ◌+◌, ◌*◌, ◌/◌, ◌%◌, ◌<◌, ◌≤◌, ◌^◌, inl, inr, List, [], ◌∷◌, length, refl, sym, ap, subst, ◌∙◌, arith}
 use Rattle.std.specs.List.{range_with_len, swap}
-use Rattle.std.proofs.lemmas.Bool.{cases_eq, cases_lt, cases_order}
+use Rattle.std.proofs.lemmas.Bool.{cases_lt, cases_order, eq-eqb, eqb-true}
 use Rattle.std.proofs.lemmas.List.{get_or_default}
+use Rattle.std.proofs.lemmas.List.Folds.{list_any_at}
 use Rattle.std.proofs.Math.ListN.{get_or-map}
 use Rattle.xn_model.specs.Graph.{EndsIn, Graph, HasNoLoop, ends_at}
 use Rattle.xn_model.specs.Insertion.{Extends, Follow, GrowsFromFirst, ReachesEnd}
-use Rattle.xn_model.specs.Lists.{at}
-use Rattle.xn_model.specs.Map.{IsMap, tail_of}
+use Rattle.xn_model.specs.Lists.{at, has}
+use Rattle.xn_model.specs.Map.{IsFlatMap, IsMap, tail_of}
 use Rattle.xn_graph.specs.Limits.{HasNodes, IsLimitedWeb, graph_of}
 use Rattle.xn_graph.proofs.Ends.{EndsIn-at, EndsIn-from_each}
 use Rattle.xn_genus.specs.Part.{AreSegmentsApart, dart_listed, ends_listed}
+use Rattle.xn_genus.proofs.Compress.{IsMap-part, flat_part}
+use Rattle.xn_genus.proofs.Listed.{part_listed}
 use Rattle.xn_map.specs.Listed.{ListedMap, map_of}
 use Rattle.xn_extend.specs.Extended.{IsEndMap, listed_web}
-use Rattle.xn_extend.specs.Search.{Came, IsChoice, IsLive, IsNewAt, Leads}
-use Rattle.xn_extend.proofs.Corners.{size_listed, two_nodes}
+use Rattle.xn_extend.specs.Search.{Came, IsChoice, IsNewAt, Leads}
+use Rattle.xn_extend.proofs.Corners.{e_half, size_listed, two_nodes}
 use Rattle.xn_extend.proofs.Led.{led}
 use Rattle.xn_extend.proofs.Listing.{Splits, Splits-first, done_of, fit_from_grows, some_from_grows}
-use Rattle.xn_extend.proofs.Live.{came_live, live_after, live_start}
-use Rattle.xn_extend.proofs.Misfits.{few_different}
-use Rattle.xn_extend.proofs.Reached.{Reached, came_reached, shows_start}
+use Rattle.xn_extend.proofs.Live.{IsLive, came_live, live_after, live_start}
+use Rattle.xn_extend.proofs.Misfits.{any_at, few_different}
+use Rattle.xn_extend.proofs.Reach.{reached_maps_are_flat}
+use Rattle.xn_extend.proofs.Found.{Reached, came_reached, shows_start}
 use Rattle.xn_extend.proofs.Shown.{Shows}
 use Rattle.xn_extend.proofs.Swapped.{swap-same}
 
@@ -86,15 +90,46 @@ module _ (web : Graph) (list : List ℕ) (no_loop : HasNoLoop web.ends) (grows :
       let level : 2 * length listed ≡ 2 * suc t = omega (arith, size, all) in
       came_reached web.ends list apart no_loop t next (omega (arith, all)) (first_reached list grows) (subst (λ k. Came listed k next) level came)
 
+  abbrev e : ℕ → ℕ
+  e = dart_listed list
+
+  -- the darts of the listed segments are those of the part
+  keeps : (j : ℕ) → j < 2 * length listed → has list (e j / 2) ≡ true
+  keeps j j_in = list_any_at (λ y. y == (e j / 2)) list (j / 2) 0 (omega (arith, j_in, size)) (eq-eqb _ _ (sym (e_half web.ends list apart j)))
+
+  found : (d : ℕ) → d < 2 * length web.ends → has list (d / 2) ≡ true → (j : ℕ) × (j < 2 * length listed) × (e j ≡ d)
+  found d d_in h =
+      let at_i = any_at (λ y. y == (d / 2)) list h in
+      let i = at_i.0 in
+      let j : ℕ = 2 * i + d % 2 in
+      let half : j / 2 ≡ i = omega arith in
+      let bit : j % 2 ≡ d % 2 = omega arith in
+      (j, omega (arith, at_i.1, size), omega (arith, ap (at list) half, bit, eqb-true _ _ at_i.2))
+
+  -- what is reached is flat
+  flat_end : (next : List ℕ) (f : ℕ → ℕ) → EndsIn web.nodes web.ends → Came listed (2 * length listed) next → Shows web.ends list f next → ReachesEnd web.ends list f →
+      IsFlatMap (listed_web web list) (at next)
+  flat_end next f ends_in came shows reaches =
+      let on = reached_maps_are_flat web.nodes web.ends list f ends_in no_loop grows reaches in
+      let part = part_listed web.ends list apart in
+      let live = came_live listed (2 * length listed) next (omega arith) came in
+      let step : (j : ℕ) → j < 2 * length listed → e (at next j) ≡ f (e j) = λ j j_in. sym (shows.inside j j_in) in
+      record {
+        is_map = IsMap-part web.nodes web.ends listed e part (has list) keeps found f (at next) on.0 ends_in live.permutes.below step;
+        flat = flat_part web.nodes web.ends listed e part (has list) keeps found f (at next) on.0 ends_in live.permutes.below step on.1;
+      }
+
   -- what the search finds is the map of an end that is reached
-  pub end_map : (next : List ℕ) (map : ListedMap) → Came listed (2 * length listed) next → map ≡ map_of (listed_web web list) next → IsEndMap web list map
-  end_map next map came is =
+  pub end_map : (next : List ℕ) (map : ListedMap) → EndsIn web.nodes web.ends → Came listed (2 * length listed) next → map ≡ map_of (listed_web web list) next → IsEndMap web list map
+  end_map next map ends_in came is =
       let reached = all_reached (length list) next refl came in
+      let reaches = ends_here reached reached.rest reached.splits reached.onward in
       let P : ListedMap → Type 0 = λ m. IsEndMap web list m in
       subst P (sym is) (record {
         web_is = refl;
+        flat = flat_end next reached.f ends_in came reached.shows reaches;
         last = reached.f;
-        reached = ends_here reached reached.rest reached.splits reached.onward;
+        reached = reaches;
         turns = λ j j_in. sym (reached.shows.inside j (omega (arith, j_in, size)));
       })
     where

@@ -10,7 +10,7 @@ use Rattle.xn_model.proofs.Darts.{reverse-even, reverse-odd, reverse-reverse, re
 use Rattle.xn_ring.proofs.Orbits.{reaches_back}
 use Rattle.xn_ring.proofs.Splice.{JoinsCycles-splice}
 use Rattle.xn_map.proofs.FaceSteps.{Permutes-face_step}
-use Rattle.xn_extend.specs.Search.{IsLive}
+use Rattle.xn_extend.proofs.Live.{IsLive}
 use Rattle.xn_extend.proofs.Swapped.{at_first, at_other, at_second}
 
 module _ (ends : List (ℕ × ℕ)) (t k : ℕ) (k_is : k ≡ 2 * t) (next : List ℕ) (live : IsLive ends k next) (low : suc k < 2 * length ends) (y b : ℕ) (y_in : y < k) (b_in : b < k) (differ : b ≢ y) where

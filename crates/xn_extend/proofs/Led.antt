@@ -9,11 +9,11 @@ use Rattle.xn_model.specs.Map.{face_step, tail_of}
 use Rattle.xn_model.specs.Permutation.{Reaches}
 use Rattle.xn_genus.specs.Part.{AreSegmentsApart, IsPart, dart_listed, ends_listed}
 use Rattle.xn_genus.proofs.Listed.{part_listed}
-use Rattle.xn_extend.specs.Search.{IsChoice, IsInFace, IsLive, IsNewAt, Leads, NoneAt}
+use Rattle.xn_extend.specs.Search.{IsChoice, IsInFace, IsNewAt, Leads, NoneAt}
 use Rattle.xn_extend.proofs.Corners.{e_even, e_odd, listed_corner, old_at, size_listed, two_nodes}
 use Rattle.xn_extend.proofs.FaceKept.{face_kept}
 use Rattle.xn_extend.proofs.Listing.{Splits, Splits-more, done_of, head_at}
-use Rattle.xn_extend.proofs.Live.{live_after}
+use Rattle.xn_extend.proofs.Live.{IsLive, live_after}
 use Rattle.xn_extend.proofs.Shown.{Shows, face_listed, shows_stood}
 use Rattle.xn_extend.proofs.Swapped.{swap-same}
 

@@ -9,8 +9,16 @@ use Rattle.xn_model.specs.Map.{IsMap, tail_of}
 use Rattle.xn_model.specs.Permutation.{IsSplice, Permutes, Reaches, iterate}
 use Rattle.xn_ring.proofs.Orbits.{reaches_back}
 use Rattle.xn_ring.proofs.Splice.{IsSplice-swap, JoinsCycles-splice, Permutes-splice}
-use Rattle.xn_extend.specs.Search.{Came, IsChoice, IsLive, WentIn, leader, taken_back}
+use Rattle.xn_extend.specs.Search.{Came, IsChoice, leader, taken_back}
 use Rattle.xn_extend.proofs.Swapped.{at_first, at_other, at_second, leader-is, swap-same, swap-swap}
+
+-- next turns round each node through the darts below k, and each other dart is alone
+pub record IsLive (ends : List (ℕ × ℕ)) (k : ℕ) (next : List ℕ) : Type 0 where
+  pub size : length next ≡ 2 * length ends
+  pub permutes : Permutes (2 * length ends) (at next)
+  pub alone : (d : ℕ) → k ≤ d → d < 2 * length ends → at next d ≡ d
+  pub stays : (d : ℕ) → d < 2 * length ends → tail_of ends (at next d) ≡ tail_of ends d
+  pub round : (d e : ℕ) → d < k → e < k → tail_of ends d ≡ tail_of ends e → Reaches (at next) d e
 
 -- the walk from a number that leads to itself stays there
 pub stays_alone : (f : ℕ → ℕ) (d : ℕ) → f d ≡ d → (k : ℕ) → iterate f k d ≡ d

@@ -30,7 +30,7 @@ FrontMarked-none web list =
     }
 
 -- some element passes
-any_at : (p : ℕ → Bool) (xs : List ℕ) → list_any p xs ≡ true → (i : ℕ) × (i < length xs) × (p (at xs i) ≡ true)
+pub any_at : (p : ℕ → Bool) (xs : List ℕ) → list_any p xs ≡ true → (i : ℕ) × (i < length xs) × (p (at xs i) ≡ true)
 any_at p [] h = absurd (both_ways false refl h)
 any_at p (x ∷ xs) h = elim (or_cases (p x) (list_any p xs) h) [
   | inl here ↦ (0, omega arith, here)

@@ -5,9 +5,15 @@ use Rattle.std.specs.List.{range_with_len, swap}
 use Rattle.std.proofs.lemmas.Bool.{cases_eq, cases_lt}
 use Rattle.std.proofs.Math.Nat.{mul-le-mul_right, suc-mul}
 use Rattle.xn_model.specs.Lists.{at}
-use Rattle.xn_extend.specs.Search.{Came, IsChoice, IsDead, IsInFace, IsLive, IsNextChoice, IsSearch, IsTried, Leads, WentIn, leader, taken_back}
-use Rattle.xn_extend.proofs.Live.{came_live, leader_after, leads_after, taken_back_after}
+use Rattle.xn_extend.specs.Search.{Came, IsChoice, IsDead, IsInFace, IsNextChoice, IsTried, Leads, leader, taken_back}
+use Rattle.xn_extend.proofs.Live.{IsLive, came_live, leader_after, leads_after, taken_back_after}
 use Rattle.xn_extend.proofs.Swapped.{leader-is, swap-swap}
+
+-- the darts below level are in, and those tried for the next one can't go in
+pub record IsSearch (ends : List (ℕ × ℕ)) (next : List ℕ) (level : ℕ) (last : Option ℕ) : Type 0 where
+  pub came : Came ends level next
+  pub chosen : (c : ℕ) → last ≡ Some c → IsChoice ends level c
+  pub dead : (y : ℕ) → IsTried last y → IsDead ends next level y
 
 -- ---- what falls: each choice left at a level weighs more than all there may be above it
 

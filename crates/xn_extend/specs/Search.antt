@@ -4,7 +4,7 @@ use Rattle.std.specs.Prelude.{◌≡◌, ◌≢◌, ℕ, zero, suc, ◌+◌, ◌
 use Rattle.std.specs.List.{range_with_len, swap}
 use Rattle.xn_model.specs.Lists.{at, position_in}
 use Rattle.xn_model.specs.Map.{face_step, tail_of}
-use Rattle.xn_model.specs.Permutation.{Permutes, Reaches}
+use Rattle.xn_model.specs.Permutation.{Reaches}
 
 -- no dart below k is at the node v
 abbrev pub NoneAt : List (ℕ × ℕ) → ℕ → ℕ → Type 0
@@ -73,17 +73,3 @@ abbrev pub IsNextChoice : List (ℕ × ℕ) → ℕ → Option ℕ → Option �
 IsNextChoice ends k last None = (y : ℕ) → IsChoice ends k y → IsTried last y
 IsNextChoice ends k last (Some c) =
     IsChoice ends k c × (¬ (IsTried last c)) × ((y : ℕ) → c < y → IsChoice ends k y → IsTried last y)
-
--- the darts below level are in, and those tried for the next one can't go in
-pub record IsSearch (ends : List (ℕ × ℕ)) (next : List ℕ) (level : ℕ) (last : Option ℕ) : Type 0 where
-  pub came : Came ends level next
-  pub chosen : (c : ℕ) → last ≡ Some c → IsChoice ends level c
-  pub dead : (y : ℕ) → IsTried last y → IsDead ends next level y
-
--- next turns round each node through the darts below k, and each other dart is alone
-pub record IsLive (ends : List (ℕ × ℕ)) (k : ℕ) (next : List ℕ) : Type 0 where
-  pub size : length next ≡ 2 * length ends
-  pub permutes : Permutes (2 * length ends) (at next)
-  pub alone : (d : ℕ) → k ≤ d → d < 2 * length ends → at next d ≡ d
-  pub stays : (d : ℕ) → d < 2 * length ends → tail_of ends (at next d) ≡ tail_of ends d
-  pub round : (d e : ℕ) → d < k → e < k → tail_of ends d ≡ tail_of ends e → Reaches (at next) d e

@@ -1,8 +1,9 @@
-ghost use Rattle.std.specs.Prelude.{◌≡◌, ◌*◌, IfOk, length};
+ghost use Rattle.std.specs.Prelude.{◌≡◌, ◌*◌, IfOk, OnOk, length};
 ghost use Rattle.xn_model.specs.Graph.{HasNoLoop};
 ghost use Rattle.xn_model.specs.Insertion.{GrowsFromFirst};
 ghost use Rattle.xn_model.specs.Lists.{at};
 ghost use Rattle.xn_model.specs.Map.{IsMap};
+ghost use Rattle.xn_graph.specs.Limits.{IsLimitedWeb};
 ghost use Rattle.xn_genus.specs.Part.{AreSegmentsApart};
 ghost use Rattle.xn_map.specs.Listed.{map_of};
 ghost use Rattle.xn_extend.specs.Extended.{IsAnswer, listed_web};
@@ -42,7 +43,8 @@ pub fn extend(alloc: Global, web: &Web, list: &[u32]) -> Result<Extended, AllocE
 // The web of all nodes and the listed segments.
 fn listed_web(alloc: Global, web: &Web, list: &[u32]) -> Result<Web, AllocError>
     requires { AreSegmentsApart web.now.ends list.now }
-    ensures { IfOk result (λ listed. listed ≡ listed_web web.now list.now) }
+    ensures web { IfOk result (λ listed. listed ≡ listed_web web.now list.now) }
+    ensures limited { OnOk result (IsLimitedWeb web.now) }
 {
     let mut ends = Vec::new(alloc);
     for s in list {

@@ -1,12 +1,15 @@
-//! Evidence by flat insertions: lists of segments, and the search for a flat map of the listed segments.
+//! Evidence by flat insertions: flat maps that grow by one segment after another, in the order of a list.
 #![tactic(auto)]
 
 mod darts;
 mod earlier;
 mod extending;
 mod faces;
+pub mod laws;
 mod lists;
 mod search;
+#[cfg(test)]
+mod tests;
 
 pub use extending::{Extended, extend};
 pub use lists::list_flaw;

@@ -30,7 +30,7 @@ pub returns-in-None : goal.returns-in-None
 returns-in-None c =
     let P : Graph → Type 0 = λ web. Leads web.ends (2 * length web.ends) 0 (range_with_len 0 (2 * length web.ends)) → ⊥ in
     let never = subst (λ o. IfNone o (P c.in_ok-listed.listed)) c.in-None.is c.in_ok-flat_rings.ensures.none in
-    no_end c.args.web.now c.args.list.now c.requires.no_loop c.requires.grows (subst P c.in_ok-listed.ensures never)
+    no_end c.args.web.now c.args.list.now c.requires.no_loop c.requires.grows (subst P c.in_ok-listed.ensures.web never)
 
 pub returns-in_ok-map_of-in-Some : goal.returns-in_ok-map_of-in-Some
 returns-in_ok-map_of-in-Some c =
@@ -40,5 +40,5 @@ returns-in_ok-map_of-in-Some c =
     let P : Graph → Type 0 = λ w. Came w.ends (2 * length w.ends) rings in
     let listed = c.in_ok-listed.listed in
     let came = subst (λ o. IfSome o (Came listed.ends (2 * length listed.ends))) c.in-Some.is c.in_ok-flat_rings.ensures.found in
-    end_map web list c.requires.no_loop c.requires.grows rings c.in_ok-map_of-in-Some.field-0 (subst P c.in_ok-listed.ensures came)
-    (c.in_ok-map_of-in-Some.ensures ∙ ap (λ w. map_of w rings) c.in_ok-listed.ensures)
+    end_map web list c.requires.no_loop c.requires.grows rings c.in_ok-map_of-in-Some.field-0 c.in_ok-listed.ensures.limited.ends_in (subst P c.in_ok-listed.ensures.web came)
+    (c.in_ok-map_of-in-Some.ensures ∙ ap (λ w. map_of w rings) c.in_ok-listed.ensures.web)

@@ -4,8 +4,8 @@ use Rattle.std.specs.List.{range_with_len, swap}
 use Rattle.std.proofs.lemmas.Bool.{both_ways}
 use Rattle.std.proofs.lemmas.List.Edits.{length-swap}
 use Rattle.std.proofs.lemmas.List.FromFn.{length-range_with_len}
-use Rattle.xn_extend.specs.Search.{IsNextChoice, IsSearch, Leads}
-use Rattle.xn_extend.proofs.Searching.{falls_back, falls_deeper, falls_on, measure_of, search_back, search_deeper, search_on, search_start, stuck}
+use Rattle.xn_extend.specs.Search.{IsNextChoice, Leads}
+use Rattle.xn_extend.proofs.Searching.{IsSearch, falls_back, falls_deeper, falls_on, measure_of, search_back, search_deeper, search_on, search_start, stuck}
 use Rattle.xn_extend.proofs.search.flat_rings.Goals as goal
 
 pub loop-level-init : goal.loop-level-init

@@ -1,6 +1,5 @@
 use Rattle.std.proofs.Common.{◌≡◌, ◌≤◌, ◌*◌, length}
-use Rattle.xn_extend.specs.Search.{AreEarlier, IsSearch}
-use Rattle.xn_extend.proofs.Searching.{measure_of}
+use Rattle.xn_extend.proofs.Searching.{IsSearch, measure_of}
 use Rattle.xn_extend.proofs.search.flat_rings.Given as goal
 
 abbrev pub invariant-loop-level : goal.invariant-loop-level

@@ -12,11 +12,11 @@ use Rattle.xn_model.specs.Permutation.{Reaches}
 use Rattle.xn_model.proofs.Darts.{tail-even, tail-odd}
 use Rattle.xn_genus.specs.Part.{AreSegmentsApart, IsPart, dart_listed, ends_listed}
 use Rattle.xn_genus.proofs.Listed.{part_listed}
-use Rattle.xn_extend.specs.Search.{Came, IsChoice, IsInFace, IsLive, IsNewAt, Leads, WentIn, leader, taken_back}
+use Rattle.xn_extend.specs.Search.{Came, IsChoice, IsInFace, IsNewAt, Leads, WentIn, leader, taken_back}
 use Rattle.xn_extend.proofs.Corners.{corner_listed, dart_at, e_even, e_odd, size_listed, two_nodes}
 use Rattle.xn_extend.proofs.FaceKept.{face_kept}
 use Rattle.xn_extend.proofs.Listing.{Splits, Splits-first, Splits-more, done_of, head_at}
-use Rattle.xn_extend.proofs.Live.{came_live, choice_in, live_after, live_start}
+use Rattle.xn_extend.proofs.Live.{IsLive, came_live, choice_in, live_after, live_start}
 use Rattle.xn_extend.proofs.Shown.{Shows, face_shown, lift, lift_shows, stands_shown}
 use Rattle.xn_extend.proofs.Swapped.{swap-same, swap-swap}
 
