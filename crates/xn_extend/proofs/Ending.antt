@@ -1,26 +1,26 @@
 -- What the search says of the listed segments.
-use Rattle.std.proofs.Common.{◌≡◌, ◌≢◌, ◌==◌, true, ℕ, zero, suc, ◌+◌, ◌*◌, ◌/◌, ◌%◌, ◌<◌, ◌≤◌, ◌^◌, inl, inr, List, [], ◌∷◌, length, refl, sym, ap, subst, ◌∙◌, arith}
+use Rattle.std.proofs.Common.{◌≡◌, ◌==◌, true, ℕ, zero, suc, ◌+◌, ◌*◌, ◌/◌, ◌%◌, ◌<◌, inl, inr, List, [], ◌∷◌, length, refl, sym, ap, subst, ◌∙◌, arith}
 use Rattle.std.specs.List.{range_with_len, swap}
 use Rattle.std.proofs.lemmas.Bool.{cases_lt, cases_order, eq-eqb, eqb-true}
 use Rattle.std.proofs.lemmas.List.{get_or_default}
 use Rattle.std.proofs.lemmas.List.Folds.{list_any_at}
 use Rattle.std.proofs.Math.ListN.{get_or-map}
 use Rattle.xn_model.specs.Graph.{EndsIn, Graph, HasNoLoop, ends_at}
-use Rattle.xn_model.specs.Insertion.{Extends, Follow, GrowsFromFirst, ReachesEnd}
+use Rattle.xn_model.specs.Insertion.{Extends, GrowsFromFirst, ReachesEnd}
 use Rattle.xn_model.specs.Lists.{at, has}
 use Rattle.xn_model.specs.Map.{IsFlatMap, IsMap, tail_of}
-use Rattle.xn_graph.specs.Limits.{HasNodes, IsLimitedWeb, graph_of}
+use Rattle.xn_graph.specs.Limits.{HasNodes, IsLimitedWeb}
 use Rattle.xn_graph.proofs.Ends.{EndsIn-at, EndsIn-from_each}
 use Rattle.xn_genus.specs.Part.{AreSegmentsApart, dart_listed, ends_listed}
 use Rattle.xn_genus.proofs.Compress.{IsMap-part, flat_part}
 use Rattle.xn_genus.proofs.Listed.{part_listed}
 use Rattle.xn_map.specs.Listed.{ListedMap, map_of}
 use Rattle.xn_extend.specs.Extended.{IsEndMap, listed_web}
-use Rattle.xn_extend.specs.Search.{Came, IsChoice, IsNewAt, Leads}
+use Rattle.xn_extend.specs.Search.{Came, IsNewAt, Leads}
 use Rattle.xn_extend.proofs.Corners.{e_half, size_listed, two_nodes}
 use Rattle.xn_extend.proofs.Led.{led}
 use Rattle.xn_extend.proofs.Listing.{Splits, Splits-first, done_of, fit_from_grows, some_from_grows}
-use Rattle.xn_extend.proofs.Live.{IsLive, came_live, live_after, live_start}
+use Rattle.xn_extend.proofs.Live.{came_live, live_after, live_start}
 use Rattle.xn_extend.proofs.Misfits.{any_at, few_different}
 use Rattle.xn_extend.proofs.Reach.{reached_maps_are_flat}
 use Rattle.xn_extend.proofs.Found.{Reached, came_reached, shows_start}

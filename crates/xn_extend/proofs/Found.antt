@@ -2,21 +2,20 @@
 use Rattle.std.proofs.Common.{◌≡◌, ◌≢◌, ◌||◌, ℕ, zero, suc, ◌+◌, ◌-◌, ◌*◌, ◌%◌, ◌<◌, ◌≤◌, inl, inr, true, false, List, [], ◌∷◌, length, refl, sym, ap, subst, ◌∙◌, arith}
 use Rattle.std.specs.List.{range_with_len, swap}
 use Rattle.std.proofs.lemmas.Bool.{both_ways, cases_eq, false_from_ne_true, or_cases}
-use Rattle.std.proofs.lemmas.List.Edits.{length-swap}
 use Rattle.std.proofs.lemmas.List.FromFn.{get_or-range_with_len}
 use Rattle.xn_model.specs.Graph.{HasNoLoop, ends_at}
-use Rattle.xn_model.specs.Insertion.{CutsFace, Extends, FlatInsertion, Follow, GrowsFromFirst, HangsAt, IsCorner, ReachesEnd, StandsAfter, is_old}
+use Rattle.xn_model.specs.Insertion.{Extends, FlatInsertion, Follow, IsCorner, ReachesEnd, StandsAfter, is_old}
 use Rattle.xn_model.specs.Lists.{at}
 use Rattle.xn_model.specs.Map.{face_step, tail_of}
 use Rattle.xn_model.specs.Permutation.{Reaches}
 use Rattle.xn_model.proofs.Darts.{tail-even, tail-odd}
 use Rattle.xn_genus.specs.Part.{AreSegmentsApart, IsPart, dart_listed, ends_listed}
 use Rattle.xn_genus.proofs.Listed.{part_listed}
-use Rattle.xn_extend.specs.Search.{Came, IsChoice, IsInFace, IsNewAt, Leads, WentIn, leader, taken_back}
+use Rattle.xn_extend.specs.Search.{Came, IsNewAt, leader, taken_back}
 use Rattle.xn_extend.proofs.Corners.{corner_listed, dart_at, e_even, e_odd, size_listed, two_nodes}
 use Rattle.xn_extend.proofs.FaceKept.{face_kept}
-use Rattle.xn_extend.proofs.Listing.{Splits, Splits-first, Splits-more, done_of, head_at}
-use Rattle.xn_extend.proofs.Live.{IsLive, came_live, choice_in, live_after, live_start}
+use Rattle.xn_extend.proofs.Listing.{Splits, Splits-more, done_of, head_at}
+use Rattle.xn_extend.proofs.Live.{IsLive, came_live, choice_in}
 use Rattle.xn_extend.proofs.Shown.{Shows, face_shown, lift, lift_shows, stands_shown}
 use Rattle.xn_extend.proofs.Swapped.{swap-same, swap-swap}
 

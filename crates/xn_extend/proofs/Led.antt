@@ -1,6 +1,6 @@
 -- Flat insertions of listed segments lead the search to the end.
-use Rattle.std.proofs.Common.{◌≡◌, ◌≢◌, ℕ, zero, suc, ◌+◌, ◌-◌, ◌*◌, ◌%◌, ◌<◌, ◌≤◌, inl, inr, true, false, List, [], ◌∷◌, length, refl, sym, ap, subst, ◌∙◌, arith}
-use Rattle.std.specs.List.{range_with_len, swap}
+use Rattle.std.proofs.Common.{◌≡◌, ◌≢◌, ℕ, suc, ◌+◌, ◌-◌, ◌*◌, ◌%◌, ◌<◌, ◌≤◌, inl, inr, false, List, [], ◌∷◌, length, refl, sym, ap, subst, ◌∙◌, arith}
+use Rattle.std.specs.List.{swap}
 use Rattle.std.proofs.lemmas.Bool.{both_ways, cases_eq}
 use Rattle.xn_model.specs.Graph.{HasNoLoop}
 use Rattle.xn_model.specs.Insertion.{CutsFace, Extends, FlatInsertion, HangsAt, IsCorner, StandsAfter, is_old}

@@ -1,16 +1,16 @@
 -- Each dart that goes in makes a map of those that are in.
-use Rattle.std.proofs.Common.{◌≡◌, ◌≢◌, ℕ, zero, suc, ◌+◌, ◌*◌, ◌<◌, ◌≤◌, inl, inr, List, [], ◌∷◌, length, refl, sym, ap, subst, ◌∙◌, arith}
+use Rattle.std.proofs.Common.{◌≡◌, ◌≢◌, ℕ, zero, suc, ◌*◌, ◌<◌, ◌≤◌, inl, inr, List, length, refl, sym, ap, subst, ◌∙◌, arith}
 use Rattle.std.specs.List.{range_with_len, swap}
 use Rattle.std.proofs.lemmas.Bool.{cases_eq}
 use Rattle.std.proofs.lemmas.List.Edits.{length-swap}
 use Rattle.std.proofs.lemmas.List.FromFn.{get_or-range_with_len, length-range_with_len}
 use Rattle.xn_model.specs.Lists.{at}
-use Rattle.xn_model.specs.Map.{IsMap, tail_of}
+use Rattle.xn_model.specs.Map.{tail_of}
 use Rattle.xn_model.specs.Permutation.{IsSplice, Permutes, Reaches, iterate}
 use Rattle.xn_ring.proofs.Orbits.{reaches_back}
 use Rattle.xn_ring.proofs.Splice.{IsSplice-swap, JoinsCycles-splice, Permutes-splice}
 use Rattle.xn_extend.specs.Search.{Came, IsChoice, leader, taken_back}
-use Rattle.xn_extend.proofs.Swapped.{at_first, at_other, at_second, leader-is, swap-same, swap-swap}
+use Rattle.xn_extend.proofs.Swapped.{leader-is, swap-same, swap-swap}
 
 -- next turns round each node through the darts below k, and each other dart is alone
 pub record IsLive (ends : List (ℕ × ℕ)) (k : ℕ) (next : List ℕ) : Type 0 where

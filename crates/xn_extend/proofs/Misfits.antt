@@ -1,5 +1,5 @@
 -- Marks of the segments of a list and of their ends, and where a segment fits.
-use Rattle.std.proofs.Common.{◌≡◌, ◌≢◌, ℕ, suc, ◌+◌, ◌<◌, ◌≤◌, ◌⊎◌, ◌^◌, inl, inr, Bool, true, false, not, eqb, set, take, replicate, slice_index_or, get_or, ◌∷◌, [], List, length, length-set, refl, sym, ap, subst, ◌∙◌, arith}
+use Rattle.std.proofs.Common.{◌≡◌, ◌≢◌, ℕ, suc, ◌+◌, ◌<◌, ◌≤◌, ◌⊎◌, ◌^◌, inl, inr, Bool, true, false, not, eqb, set, take, replicate, get_or, ◌∷◌, [], List, length, length-set, refl, sym, ap, subst, ◌∙◌, arith}
 use Rattle.std.specs.Prelude.{◌↔◌}
 use Rattle.std.specs.List.{IsDistinct, list_any}
 use Rattle.std.proofs.lemmas.Bool.{both_ways, cases_eq, cases_lt, eq-eqb, eqb-true, ne_eqb, or_cases, or_left, or_right}
@@ -11,7 +11,7 @@ use Rattle.xn_model.specs.Graph.{Graph, ends_at, touches}
 use Rattle.xn_model.specs.Lists.{at}
 use Rattle.xn_map.specs.Marks.{is_marked}
 use Rattle.xn_map.proofs.Marking.{is_marked-set}
-use Rattle.xn_extend.specs.ListFlaw.{AllFit, FrontMarked, IsMisfit, Repeats, SharesNode}
+use Rattle.xn_extend.specs.ListFlaw.{FrontMarked, IsMisfit, Repeats, SharesNode}
 
 -- no place is marked
 unmarked : (n x : ℕ) → is_marked (replicate n false) x ≡ true → x < n → ⊥

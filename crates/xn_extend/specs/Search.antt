@@ -1,6 +1,6 @@
 -- The search for flat insertions of all segments of a web in their order, one dart after another.
 -- Dart k may go in where the darts below k are in, and each other dart is alone.
-use Rattle.std.specs.Prelude.{◌≡◌, ◌≢◌, ℕ, zero, suc, ◌+◌, ◌-◌, ◌*◌, ◌%◌, ◌<◌, ◌≤◌, ◌⊎◌, Option, Some, None, List, length, slice_index_or}
+use Rattle.std.specs.Prelude.{◌≡◌, ◌≢◌, ℕ, zero, suc, ◌-◌, ◌*◌, ◌%◌, ◌<◌, ◌≤◌, ◌⊎◌, Option, Some, None, List, length, slice_index_or}
 use Rattle.std.specs.List.{range_with_len, swap}
 use Rattle.xn_model.specs.Lists.{at, position_in}
 use Rattle.xn_model.specs.Map.{face_step, tail_of}

@@ -1,5 +1,5 @@
-use Rattle.std.proofs.Common.{◌≡◌, ℕ, ◌*◌, ◌<◌, ◌≤◌, ◌+◌, ◌++◌, ◌∷◌, [], List, set, length, arith, subst, sym, ap, ◌∙◌}
-use Rattle.std.specs.Prelude.{Option, Some, None, slice_index_or}
+use Rattle.std.proofs.Common.{ℕ, ◌+◌, List, set, arith, subst, sym}
+use Rattle.std.specs.Prelude.{Option, Some}
 use Rattle.xn_extend.proofs.Latest.{AreEarlier-all, EarlierBelow, EarlierBelow-more, EarlierBelow-start}
 use Rattle.xn_extend.proofs.earlier.push_earlier.Goals as goal
 

@@ -1,4 +1,3 @@
-use Rattle.std.proofs.Common.{◌≡◌, length}
 use Rattle.xn_extend.proofs.Latest.{EarlierBelow}
 use Rattle.xn_extend.proofs.earlier.push_earlier.Given as goal
 

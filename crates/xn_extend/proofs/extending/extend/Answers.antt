@@ -1,10 +1,8 @@
-use Rattle.std.proofs.Common.{◌≡◌, ◌<◌, ◌*◌, ℕ, List, length, refl, sym, ap, subst, ◌∙◌, arith}
-use Rattle.std.specs.Prelude.{Option, Some, None, IfSome, IfNone}
+use Rattle.std.proofs.Common.{◌*◌, length, ap, subst, ◌∙◌, arith}
+use Rattle.std.specs.Prelude.{IfSome, IfNone}
 use Rattle.std.specs.List.{range_with_len}
 use Rattle.xn_model.specs.Graph.{EndsIn, Graph}
-use Rattle.xn_model.specs.Lists.{at}
 use Rattle.xn_map.specs.Listed.{map_of}
-use Rattle.xn_extend.specs.Extended.{listed_web}
 use Rattle.xn_extend.specs.Search.{Came, Leads}
 use Rattle.xn_extend.proofs.Ending.{apart_from_grows, end_map, map_came, no_end}
 use Rattle.xn_extend.proofs.Live.{came_live}

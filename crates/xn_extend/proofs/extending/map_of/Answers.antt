@@ -1,4 +1,4 @@
-use Rattle.std.proofs.Common.{◌≡◌, ℕ, List, Err, length, sym, ap, subst, ◌∙◌, arith}
+use Rattle.std.proofs.Common.{ℕ, List, Err, ap, subst, ◌∙◌}
 use Rattle.xn_model.specs.Lists.{at}
 use Rattle.xn_map.specs.Rotation.{IsRotationFlaw}
 use Rattle.xn_map.proofs.Rotations.{flaws_are_no_maps}

@@ -1,4 +1,4 @@
-use Rattle.std.proofs.Common.{◌≡◌, ◌≤◌, ◌<◌, ◌+◌, ◌^◌, ℕ, List, Bool, true, false, set, length, refl, ap, arith, subst, sym}
+use Rattle.std.proofs.Common.{◌+◌, ℕ, true, set, ap, arith, subst, sym}
 use Rattle.std.proofs.lemmas.Bool.{both_ways}
 use Rattle.xn_model.specs.Lists.{at}
 use Rattle.xn_extend.specs.ListFlaw.{FrontMarked, IsMisfit}

@@ -1,4 +1,4 @@
-use Rattle.std.proofs.Common.{◌≡◌, ℕ, ◌<◌, List, Option, Some, None, length, rules}
+use Rattle.std.proofs.Common.{rules}
 use Rattle.xn_extend.proofs.Listing.{grown_or_flaw}
 use Rattle.xn_extend.proofs.lists.list_flaw.Goals as goal
 

@@ -1,4 +1,4 @@
-use Rattle.std.proofs.Common.{◌≡◌, ◌≤◌, ◌*◌, length}
+use Rattle.std.proofs.Common.{◌≡◌, ◌≤◌, length}
 use Rattle.xn_extend.proofs.Searching.{IsSearch, measure_of}
 use Rattle.xn_extend.proofs.search.flat_rings.Given as goal
 
