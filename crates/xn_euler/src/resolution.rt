@@ -1,6 +1,7 @@
 ghost use Rattle.std.specs.Prelude.{◌≡◌, ◌≢◌, ℕ, ◌*◌, ◌^◌, ◌<◌, OnErr, OnOk, length};
 ghost use Rattle.xn_model.specs.Map.{tail_of};
 ghost use Rattle.xn_map.specs.Changes.{StaysFlat};
+ghost use Rattle.xn_map.specs.Listed.{IsListedMap};
 ghost use Rattle.xn_euler.specs.Resolving.{CanResolve, IsCut, Resolves};
 
 use std::alloc::AllocError;
@@ -36,7 +37,8 @@ pub fn resolve(map: &mut Map, v: u32, how: Way) -> Result<(), AllocError>
 // The darts before which a node is split.
 fn cut(map: &Map, v: u32, how: Way) -> (u32, u32)
     requires { CanResolve map.now v how }
-    ensures { IsCut map.now v how result.0 result.1 }
+    ensures map { IsListedMap map.now }
+    ensures cut { IsCut map.now v how result.0 result.1 }
 {
     let a = least_dart(map, v);
     let b = map.next(a);
@@ -50,6 +52,7 @@ fn cut(map: &Map, v: u32, how: Way) -> (u32, u32)
 // The least dart of a node that has one.
 fn least_dart(map: &Map, v: u32) -> u32
     requires { (d : ℕ) × (d < length map.now.next) × (tail_of map.now.web.ends d ≡ v) }
+    ensures map { IsListedMap map.now }
     ensures dart { result < length map.now.next }
     ensures node { tail_of map.now.web.ends result ≡ v }
     ensures least { (d : ℕ) → d < result → tail_of map.now.web.ends d ≢ v }

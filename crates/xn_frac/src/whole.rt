@@ -1,5 +1,5 @@
 //! Whole numbers for fractions. Where both numbers are below 2^64 a division is one of 64 bits.
-ghost use Rattle.std.specs.Prelude.{◌≡◌, ◌+◌, ◌*◌, ◌/◌, ◌^◌, ◌<◌, ◌↔◌, ℤ, pos, ◌+ℤ◌, ◌*ℤ◌, IsTrue};
+ghost use Rattle.std.specs.Prelude.{◌≡◌, ◌+◌, ◌*◌, ◌/◌, ◌%◌, ◌^◌, ◌<◌, ◌↔◌, ℤ, pos, ◌+ℤ◌, ◌*ℤ◌, IsTrue};
 ghost use Rattle.std.specs.Int.{IsGcd};
 ghost use Rattle.std.specs.Option.{SomeIff};
 ghost use Rattle.xn_frac.specs.Ratio.{IsInRange, signed};
@@ -21,16 +21,34 @@ pub fn gcd(a: u128, b: u128) -> u128
     x
 }
 
-// The same of two numbers of 64 bits.
-fn short_gcd(a: u64, b: u64) -> u64
+/// The same of two numbers of 64 bits, by halving and differences (Stein 1967).
+pub fn short_gcd(a: u64, b: u64) -> u64
     ensures { IsGcd a b result }
 {
-    let mut x = a;
-    let mut y = b;
-    while y != 0 {
-        let rest = x % y;
-        x = y;
-        y = rest;
+    if a == 0 {
+        return b;
+    }
+    if b == 0 {
+        return a;
+    }
+    if a == 1 || b == 1 {
+        return 1;
+    }
+    let (m, n) = (a.trailing_zeros(), b.trailing_zeros());
+    odd_gcd(a >> m, b >> n) << m.min(n)
+}
+
+// The same of two odd numbers.
+fn odd_gcd(a: u64, b: u64) -> u64
+    requires left { a % 2 ≡ 1 }
+    requires right { b % 2 ≡ 1 }
+    ensures { IsGcd a b result }
+{
+    let (mut x, mut y) = (a, b);
+    while x != y {
+        let gap = x.abs_diff(y);
+        x = x.min(y);
+        y = gap >> gap.trailing_zeros();
     }
     x
 }

@@ -21,7 +21,7 @@ use Rattle.xn_map.specs.Listed.{IsListedMap, ListedMap, map_of}
 use Rattle.xn_map.specs.Passing.{AreTwoDarts, HasTwoDarts, LeadsOn, LosesNode, MovesNode, RunsOn, Smooths, dart_run}
 use Rattle.xn_map.proofs.Fill.{dart_before_in}
 
-reverse_other : (q : ℕ) → reverse_of q ≢ q
+pub reverse_other : (q : ℕ) → reverse_of q ≢ q
 reverse_other q same = let c = cases_dart q in elim c.1 [
   | inl even ↦ omega (arith, ap reverse_of even, reverse-even c.0, same, even)
   | inr odd ↦ omega (arith, ap reverse_of odd, reverse-odd c.0, same, odd)
@@ -158,7 +158,7 @@ module _ (p q far : ℕ) (old mid new : Graph) (q_in : q < 2 * length old.ends) 
   }
 
 -- a walk in a ring of two
-ring_of_two : (next : ℕ → ℕ) (p q : ℕ) → next p ≡ q → next q ≡ p → (k : ℕ) → (iterate next k p ≡ p) ⊎ (iterate next k p ≡ q)
+pub ring_of_two : (next : ℕ → ℕ) (p q : ℕ) → next p ≡ q → next q ≡ p → (k : ℕ) → (iterate next k p ≡ p) ⊎ (iterate next k p ≡ q)
 ring_of_two next p q to_q to_p zero = inl refl
 ring_of_two next p q to_q to_p (suc k) = elim (ring_of_two next p q to_q to_p k) [
   | inl first ↦ inr (ap next first ∙ to_q)
