@@ -1,5 +1,4 @@
-pub mod Laws
-pub mod Plain
+pub mod Fronts
+pub mod Ranges
 pub mod Reading
 pub mod Refusal
-pub mod Spelling

@@ -1,12 +1,13 @@
-//! The text of answers. So far plain answers: the answer to a graph that is drawn without crossings.
+//! The text of answers.
 #![tactic(auto)]
 
 mod flaw;
-pub mod laws;
-mod lines;
-mod plain;
+mod front;
+mod items;
+mod ranges;
+mod reader;
 mod refusal;
 
 pub use flaw::AnswerErr;
-pub use plain::{Front, read_front, read_tail};
+pub use front::{Front, read_front};
 pub use refusal::write_flaw;
