@@ -1,4 +1,5 @@
 pub mod Fronts
+pub mod Proofs
 pub mod Ranges
 pub mod Reading
 pub mod Refusal

@@ -1,5 +1,5 @@
 -- The numbers of a line, each in its range.
-use Rattle.std.specs.Prelude.{ℕ, ◌-◌, ◌^◌, ◌==◌, Bool, false, List, [], ◌∷◌, length, Option, Some, None, Result, Ok, Err, nat_lt, if◌then◌else◌}
+use Rattle.std.specs.Prelude.{ℕ, ◌-◌, ◌*◌, ◌^◌, ◌==◌, Bool, false, List, [], ◌∷◌, length, Option, Some, None, Result, Ok, Err, nat_lt, if◌then◌else◌}
 use Rattle.xn_kinds.specs.declared.flaws.Flaw.{Flaw}
 use Rattle.xn_proof.specs.Reading.{◌>>=◌, each_at, loop_flaw, out_of_range, syntax}
 
@@ -12,6 +12,11 @@ at_most i most None = Err (out_of_range i)
 abbrev pub below : ℕ → ℕ → Option ℕ → Result ℕ Flaw
 below i bound (Some n) = if nat_lt n bound then Ok n else Err (out_of_range i)
 below i bound None = Err (out_of_range i)
+
+-- a number from 1 to 2^63 - 1
+abbrev pub factor : ℕ → Option ℕ → Result ℕ Flaw
+factor i (Some n) = if nat_lt n 1 then Err (out_of_range i) else if nat_lt n (2 ^ 63) then Ok n else Err (out_of_range i)
+factor i None = Err (out_of_range i)
 
 -- the value is this number
 abbrev pub is_value : Option ℕ → ℕ → Bool
@@ -69,3 +74,46 @@ unfoldable pub list_form : ℕ → ℕ → List (Option ℕ) → Result (List �
 list_form most i vs = do
   rest ← counted most i vs
   each_at (at_most i (2 ^ 32 - 1)) rest
+
+-- so many numbers of 32 bits
+unfoldable pub nodes_form : ℕ → ℕ → List (Option ℕ) → Result (List ℕ) Flaw
+nodes_form count i vs = if length vs == count then each_at (at_most i (2 ^ 32 - 1)) vs else Err (syntax i)
+
+-- an edge and a list of numbers of 32 bits
+unfoldable pub over_form : ℕ → List (Option ℕ) → Result (ℕ × List ℕ) Flaw
+over_form i (v ∷ vs) = do
+  list ← list_form 999 i vs
+  edge ← at_most i (2 ^ 32 - 1) v
+  Ok (edge, list)
+over_form i [] = Err (syntax i)
+
+-- two edges of so many
+unfoldable pub edges_form : ℕ → ℕ → List (Option ℕ) → Result (ℕ × ℕ) Flaw
+edges_form edges i (v ∷ w ∷ []) = do
+  e ← below i edges v
+  f ← below i edges w
+  Ok (e, f)
+edges_form edges i vs = Err (syntax i)
+
+-- row numbers, each with its multiplier
+unfoldable pub parts_at : ℕ → ℕ → List (Option ℕ) → Result (List (ℕ × ℕ)) Flaw
+parts_at rows i [] = Ok []
+parts_at rows i (v ∷ []) = Err (syntax i)
+parts_at rows i (v ∷ w ∷ vs) = do
+  row ← below i rows v
+  multiplier ← factor i w
+  rest ← parts_at rows i vs
+  Ok ((row, multiplier) ∷ rest)
+
+-- the number of pairs is said in front of them
+abbrev pub is_half : Option ℕ → ℕ → Bool
+is_half (Some n) m = 2 * n == m
+is_half None m = false
+
+-- the divisor, and how many parts follow, each a row number and a multiplier
+unfoldable pub leaf_form : ℕ → ℕ → List (Option ℕ) → Result (ℕ × List (ℕ × ℕ)) Flaw
+leaf_form rows i (v ∷ w ∷ vs) =
+    if is_half w (length vs)
+    then (at_most i (2 ^ 32 - 1) w >>= λ count. factor i v >>= λ divisor. parts_at rows i vs >>= λ parts. Ok (divisor, parts))
+    else Err (syntax i)
+leaf_form rows i vs = Err (syntax i)

@@ -1,6 +1,6 @@
 // Why no answer is given: a flaw of its text, or want of memory.
 ghost use Rattle.std.specs.Prelude.{◌≡◌};
-ghost use Rattle.xn_proof.specs.Reading.{loop_flaw, out_of_range, syntax};
+ghost use Rattle.xn_proof.specs.Reading.{loop_flaw, out_of_range, syntax, trailing};
 ghost use Rattle.xn_proof.specs.declared.flaw.AnswerErr.TheVariants.{Memory};
 
 use std::alloc::{AllocError, AllocFailed};
@@ -58,5 +58,15 @@ pub fn loop_flaw(line: u64, edge: u32) -> AnswerErr
     AnswerErr::Refused(Flaw {
         line,
         kind: FlawKind::Loop(edge),
+    })
+}
+
+// Something stands behind the end.
+pub fn trailing(line: u64) -> AnswerErr
+    ensures { result ≡ AnswerErr.Refused (trailing line) }
+{
+    AnswerErr::Refused(Flaw {
+        line,
+        kind: FlawKind::Trailing,
     })
 }

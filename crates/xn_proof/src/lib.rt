@@ -1,13 +1,19 @@
 //! The text of answers.
 #![tactic(auto)]
 
+mod answer;
+mod evidence;
 mod flaw;
 mod front;
 mod items;
 mod ranges;
 mod reader;
 mod refusal;
+mod rows;
+mod tree;
 
+pub use answer::{read_answer, read_proof};
 pub use flaw::AnswerErr;
-pub use front::{Front, read_front};
+pub use front::{Front, front_lines, read_front};
+pub use reader::Reader;
 pub use refusal::write_flaw;

@@ -1,7 +1,7 @@
 // The numbers of a line, each in its range.
 ghost use Rattle.std.specs.Prelude.{◌≡◌, ◌<◌, ◌≤◌, ◌-◌, ◌^◌, IfOk, length};
 ghost use Rattle.xn_graph.specs.Limits.{IsEdge};
-ghost use Rattle.xn_proof.specs.Ranges.{at_most, below, counted, edge_form, effort_form, is_value, just_form, list_form, no_form, one_form, two_form};
+ghost use Rattle.xn_proof.specs.Ranges.{at_most, below, counted, edge_form, effort_form, factor, is_value, just_form, list_form, no_form, one_form, two_form};
 ghost use Rattle.xn_proof.specs.Reading.{Gives, each_at};
 
 use crate::flaw::{AnswerErr, loop_flaw, out_of_range, syntax};
@@ -34,6 +34,16 @@ pub fn below(number: u64, bound: u32, value: Option<u64>) -> Result<u32, AnswerE
 {
     match value {
         Some(n) if n < u64::from(bound) => Ok(n as u32),
+        _ => Err(out_of_range(number)),
+    }
+}
+
+// A number from 1 to 2^63 - 1.
+pub fn factor(number: u64, value: Option<u64>) -> Result<u64, AnswerErr>
+    ensures { Gives (λ n. n) result (factor number value) }
+{
+    match value {
+        Some(n) if n >= 1 && n < 1 << 63 => Ok(n),
         _ => Err(out_of_range(number)),
     }
 }

@@ -1,7 +1,7 @@
 // What is left of a text, taken line by line.
 ghost use Rattle.std.specs.Prelude.{◌≡◌};
 ghost use Rattle.xn_text.specs.Pieces.{words_of};
-ghost use Rattle.xn_proof.specs.Reading.{Gives, Reads, each_at, keyed, line_at, numbers_at, value_at};
+ghost use Rattle.xn_proof.specs.Reading.{Gives, Reads, each_at, has_key, keyed, line_at, numbers_at, value_at};
 
 use crate::flaw::{AnswerErr, syntax};
 use std::alloc::Global;
@@ -95,6 +95,16 @@ pub fn keyed_numbers(
         return Err(syntax(number));
     }
     values(alloc, number, &mut words)
+}
+
+// Whether the first word of a line is the key.
+pub fn has_key(key: &[u8], line: &[u8]) -> bool
+    ensures { result ≡ has_key key.now (words_of line.now) }
+{
+    match Words::new(line).next() {
+        Some(word) => word == key,
+        None => false,
+    }
 }
 
 // The numbers that the words spell.
