@@ -6,6 +6,7 @@ mod evidence;
 mod flaw;
 mod front;
 mod items;
+pub mod laws;
 mod ranges;
 mod reader;
 mod refusal;

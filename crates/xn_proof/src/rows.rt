@@ -40,6 +40,7 @@ fn over_line(alloc: Global, place: u32, reader: &mut Reader) -> Result<(u32, Vec
 }
 
 // The edges of a row, and for each those that cross it, along it.
+#[tactic(auto, unfolding(crate::specs::Proofs::overs_at))]
 fn over_lines(
     alloc: Global,
     count: u32,
