@@ -128,3 +128,170 @@ graph_again i h rest fits =
 
 pub graph_item : IsItem graph_at (λ h. graph_text h.0 h.1) IsGraphText
 graph_item = record { takes = graph_takes; again = graph_again }
+
+-- ---- bounds and effort
+
+abbrev BoundsFit : (ℕ × ℕ) × (ℕ × ℕ) → Type 0
+BoundsFit b = AreBounds b.0.0 b.0.1 b.1.0 b.1.1
+
+abbrev bounds_spelled : (ℕ × ℕ) × (ℕ × ℕ) → List ℕ
+bounds_spelled b = bounds_text b.0.0 b.0.1 b.1.0 b.1.1
+
+bounds_takes : (s : Left) (b : (ℕ × ℕ) × (ℕ × ℕ)) (after : Left) → bounds_at s ≡ Ok (b, after) → (s.1 ≡ bounds_spelled b ++ after.1) × BoundsFit b
+unfolding bounds_at
+bounds_takes s b after e =
+    let l = bind_ok (form_at (codes "bounds") (two_form 499500 499500) s) (λ l. form_at (codes "effort") effort_form l.1 >>= λ m. Ok ((l.0, m.0), m.1)) (b, after) e in
+    let m = bind_ok (form_at (codes "effort") effort_form l.0.1) (λ m. Ok ((l.0.0, m.0), m.1)) (b, after) l.2 in
+    let first = bounds_item.takes s l.0.0 l.0.1 l.1 in
+    let second = effort_item.takes l.0.1 m.0.0 m.0.1 m.1 in
+    subst (λ (r : ((ℕ × ℕ) × (ℕ × ℕ)) × Left). (s.1 ≡ bounds_spelled r.0 ++ r.1.1) × BoundsFit r.0) (ok_is ((l.0.0, m.0.0), m.0.1) (b, after) m.2)
+    (two_pieces s.1 (line (codes "bounds") (l.0.0.0 ∷ l.0.0.1 ∷ [])) l.0.1.1 (line (codes "effort") (m.0.0.0 ∷ m.0.0.1 ∷ [])) m.0.1.1 first.0 second.0,
+    record { lower_small = first.1.0; upper_small = first.1.1; spent_small = second.1.0; budget_small = second.1.1 })
+
+bounds_again : (i : ℕ) (b : (ℕ × ℕ) × (ℕ × ℕ)) (rest : List ℕ) → BoundsFit b → (j : ℕ) × (bounds_at (i, bounds_spelled b ++ rest) ≡ Ok (b, (j, rest)))
+unfolding bounds_at
+bounds_again i b rest fits =
+    let second_text : List ℕ = line (codes "effort") (b.1.0 ∷ b.1.1 ∷ []) in
+    let first = bounds_item.again i b.0 (second_text ++ rest) (fits.lower_small, fits.upper_small) in
+    let second = effort_item.again first.0 b.1 rest (fits.spent_small, fits.budget_small) in
+    (second.0, rw (regroup_two (line (codes "bounds") (b.0.0 ∷ b.0.1 ∷ [])) second_text rest, first.1, second.1) refl)
+
+pub bounds_items : IsItem bounds_at bounds_spelled BoundsFit
+bounds_items = record { takes = bounds_takes; again = bounds_again }
+
+-- ---- the drawing
+
+-- turns in the order of the darts are cut into those of the segments
+turns_of-next_of : (turns : List (ℕ × ℕ)) → turns_of (next_of turns) ≡ turns
+turns_of-next_of [] = refl
+turns_of-next_of (t ∷ ts) = ap (λ us. t ∷ us) (turns_of-next_of ts)
+
+length-next_of : (turns : List (ℕ × ℕ)) → length (next_of turns) ≡ 2 * length turns
+length-next_of [] = refl
+length-next_of (t ∷ ts) = let rest = length-next_of ts in omega (arith, rest)
+
+abbrev IsSmall : ℕ → Type 0
+IsSmall n = n < 2 ^ 32
+
+next_of_small : (turns : List (ℕ × ℕ)) → All (BothAtMost most_32) turns → All IsSmall (next_of turns)
+next_of_small [] all = all_none IsSmall
+next_of_small (t ∷ ts) all =
+    let first : BothAtMost most_32 t = all_first (BothAtMost most_32) t ts all in
+    let m = first.0 in
+    let n = first.1 in
+    all_cons IsSmall t.0 (t.1 ∷ next_of ts) (omega (arith, m)) (all_cons IsSmall t.1 (next_of ts) (omega (arith, n)) (next_of_small ts (all_rest (BothAtMost most_32) t ts all)))
+
+-- an even number of turns is that of the segments
+record IsEven (next : List ℕ) (k : ℕ) : Type 0 where
+  same : next_of (turns_of next) ≡ next
+  count : length (turns_of next) ≡ k
+  small : All (BothAtMost most_32) (turns_of next)
+
+is_even : (next : List ℕ) (k : ℕ) → length next ≡ 2 * k → All IsSmall next → IsEven next k
+is_even [] zero long all = record { same = refl; count = refl; small = all_none (BothAtMost most_32) }
+is_even [] (suc k) long all = absurd (omega arith)
+is_even (a ∷ []) zero long all = absurd (omega arith)
+is_even (a ∷ []) (suc k) long all = absurd (omega arith)
+is_even (a ∷ b ∷ next) zero long all = absurd (omega arith)
+is_even (a ∷ b ∷ next) (suc k) long all =
+    let first : a < 2 ^ 32 = all_first IsSmall a (b ∷ next) all in
+    let others : All IsSmall (b ∷ next) = all_rest IsSmall a (b ∷ next) all in
+    let second : b < 2 ^ 32 = all_first IsSmall b next others in
+    let rest = is_even next k (omega (arith, long)) (all_rest IsSmall b next others) in
+    record {
+      same = ap (λ ns. a ∷ b ∷ ns) rest.same;
+      count = ap suc rest.count;
+      small = all_cons (BothAtMost most_32) (a, b) (turns_of next) (omega (arith, first), omega (arith, second)) rest.small;
+    }
+
+drawing_spelled : List (List ℕ) → List (ℕ × ℕ) → List ℕ
+drawing_spelled lists turns = each along_line lists ++ each turn_line turns
+
+drawing_takes : (m : ℕ) (s : Left) (d : Drawing) (after : Left) → drawing_at m s ≡ Ok (d, after) → (s.1 ≡ (each along_line d.orders ++ each turn_line (turns_of d.next)) ++ after.1) × IsDrawingText m d
+unfolding drawing_at
+drawing_takes m s d after e =
+    let l = bind_ok (many_at along_at 0 m s) (λ l. many_at turn_at 0 (m + total length l.0) l.1 >>= λ t. Ok (record { orders = l.0; next = next_of t.0 }, t.1)) (d, after) e in
+    let t = bind_ok (many_at turn_at 0 (m + total length l.0.0) l.0.1) (λ t. Ok (record { orders = l.0.0; next = next_of t.0 }, t.1)) (d, after) l.2 in
+    let lists = many_takes along_at along_line (IsList 999) along_item 0 m s l.0 l.1 in
+    let turns = many_takes turn_at turn_line (BothAtMost most_32) turn_item 0 (m + total length l.0.0) l.0.1 t.0 t.1 in
+    let count = turns.count in
+    let long = length-next_of t.0.0 in
+    let found : Drawing = record { orders = l.0.0; next = next_of t.0.0 } in
+    subst (λ (r : Drawing × Left). (s.1 ≡ (each along_line r.0.orders ++ each turn_line (turns_of r.0.next)) ++ r.1.1) × IsDrawingText m r.0) (ok_is (found, t.0.1) (d, after) t.2)
+    (subst (λ us. s.1 ≡ (each along_line l.0.0 ++ each turn_line us) ++ t.0.1.1) (sym (turns_of-next_of t.0.0)) (two_pieces s.1 (each along_line l.0.0) l.0.1.1 (each turn_line t.0.0) t.0.1.1 lists.text_is turns.text_is),
+    record {
+      lists_fit = lists.count;
+      lists = lists.all;
+      next_fits = omega (arith, count, long);
+      next_small = next_of_small t.0.0 turns.all;
+    })
+
+drawing_again : (m i : ℕ) (d : Drawing) (rest : List ℕ) → IsDrawingText m d → (j : ℕ) × (drawing_at m (i, (each along_line d.orders ++ each turn_line (turns_of d.next)) ++ rest) ≡ Ok (d, (j, rest)))
+unfolding drawing_at
+drawing_again m i d rest fits =
+    let turns_text : List ℕ = each turn_line (turns_of d.next) in
+    let even = is_even d.next (m + total length d.orders) fits.next_fits fits.next_small in
+    let lists = many_again along_at along_line (IsList 999) along_item d.orders 0 i (turns_text ++ rest) fits.lists in
+    let turns = many_again turn_at turn_line (BothAtMost most_32) turn_item (turns_of d.next) 0 lists.0 rest even.small in
+    let lists_read : many_at along_at 0 m (i, each along_line d.orders ++ (turns_text ++ rest)) ≡ Ok (d.orders, (lists.0, turns_text ++ rest)) =
+    subst (λ k. many_at along_at 0 k (i, each along_line d.orders ++ (turns_text ++ rest)) ≡ Ok (d.orders, (lists.0, turns_text ++ rest))) fits.lists_fit lists.1 in
+    let turns_read : many_at turn_at 0 (m + total length d.orders) (lists.0, turns_text ++ rest) ≡ Ok (turns_of d.next, (turns.0, rest)) =
+    subst (λ k. many_at turn_at 0 k (lists.0, turns_text ++ rest) ≡ Ok (turns_of d.next, (turns.0, rest))) even.count turns.1 in
+    let with_next : List ℕ → Result (Drawing × Left) Flaw = λ next. Ok (record { orders = d.orders; next = next }, (turns.0, rest)) in
+    (turns.0, rw (regroup_two (each along_line d.orders) turns_text rest, lists_read, turns_read) (ap with_next even.same))
+
+pub drawing_item : (m : ℕ) → IsItem (drawing_at m) (λ d. each along_line d.orders ++ each turn_line (turns_of d.next)) (IsDrawingText m)
+drawing_item m = record { takes = drawing_takes m; again = drawing_again m }
+
+-- ---- the whole front
+
+pub record FrontIs (text : List ℕ) (f : Front) (after : Left) : Type 0 where
+  pub is_front : IsFront f
+  pub text_is : text ≡ front_text f ++ after.1
+
+pub front_takes : (s : Left) (f : Front) (after : Left) → front_at s ≡ Ok (f, after) → FrontIs s.1 f after
+unfolding front_at
+front_takes s f after e =
+    let made : Graph × ℕ → (ℕ × ℕ) × (ℕ × ℕ) → Drawing → ℕ → Front = λ h b d n. record { graph = h.0; loops = h.1; lower = b.0.0; upper = b.0.1; spent = b.1.0; budget = b.1.1; drawing = d; line = n } in
+    let drawn : Graph × ℕ → (ℕ × ℕ) × (ℕ × ℕ) → Drawing × Left → Result (Front × Left) Flaw = λ h b d. form_at (codes "drawn") no_form d.1 >>= λ u. Ok (made h b d.0 d.1.0, u.1) in
+    let h = bind_ok (graph_at s) (λ h. bounds_at h.1 >>= λ b. drawing_at (length h.0.0.ends) b.1 >>= drawn h.0 b.0) (f, after) e in
+    let b = bind_ok (bounds_at h.0.1) (λ b. drawing_at (length h.0.0.0.ends) b.1 >>= drawn h.0.0 b.0) (f, after) h.2 in
+    let d = bind_ok (drawing_at (length h.0.0.0.ends) b.0.1) (drawn h.0.0 b.0.0) (f, after) b.2 in
+    let u = bind_ok (form_at (codes "drawn") no_form d.0.1) (λ u. Ok (made h.0.0 b.0.0 d.0.0 d.0.1.0, u.1)) (f, after) d.2 in
+    let head = graph_item.takes s h.0.0 h.0.1 h.1 in
+    let bounds = bounds_items.takes h.0.1 b.0.0 b.0.1 b.1 in
+    let drawing = (drawing_item (length h.0.0.0.ends)).takes b.0.1 d.0.0 d.0.1 d.1 in
+    let end = drawn_item.takes d.0.1 u.0.0 u.0.1 u.1 in
+    let lists : List ℕ = each along_line d.0.0.orders in
+    let turns : List ℕ = each turn_line (turns_of d.0.0.next) in
+    let whole : b.0.1.1 ≡ (lists ++ (turns ++ line (codes "drawn") [])) ++ u.0.1.1 =
+    two_pieces b.0.1.1 (lists ++ turns) d.0.1.1 (line (codes "drawn") []) u.0.1.1 drawing.0 end.0 ∙ ap (λ (t : List ℕ). t ++ u.0.1.1) (append_assoc lists turns (line (codes "drawn") [])) in
+    subst (λ (r : Front × Left). FrontIs s.1 r.0 r.1) (ok_is (made h.0.0 b.0.0 d.0.0 d.0.1.0, u.0.1) (f, after) u.2) (record {
+      is_front = record { graph = head.1.0; loops = head.1.1; bounds = bounds.1; drawing = drawing.1 };
+      text_is = three_pieces s.1 (graph_text h.0.0.0 h.0.0.1) h.0.1.1 (bounds_spelled b.0.0) b.0.1.1 (lists ++ (turns ++ line (codes "drawn") [])) u.0.1.1 head.0 bounds.0 whole;
+    })
+
+-- a text that begins with the spelling is read so, up to the number of the line `drawn`
+pub record FrontRead (i : ℕ) (f : Front) (rest : List ℕ) : Type 0 where
+  pub number : ℕ
+  pub next : ℕ
+  pub read : front_at (i, front_text f ++ rest) ≡ Ok (record f { line = number }, (next, rest))
+
+pub front_again : (i : ℕ) (f : Front) (rest : List ℕ) → IsFront f → FrontRead i f rest
+unfolding front_at
+front_again i f rest fits =
+    let m : ℕ = length f.graph.ends in
+    let lists : List ℕ = each along_line f.drawing.orders in
+    let turns : List ℕ = each turn_line (turns_of f.drawing.next) in
+    let last : List ℕ = line (codes "drawn") [] in
+    let bounds_part : List ℕ = bounds_text f.lower f.upper f.spent f.budget in
+    let grouped : (lists ++ (turns ++ last)) ++ rest ≡ (lists ++ turns) ++ (last ++ rest) = ap (λ (t : List ℕ). t ++ rest) (sym (append_assoc lists turns last)) ∙ append_assoc (lists ++ turns) last rest in
+    let head = graph_item.again i (f.graph, f.loops) (bounds_part ++ ((lists ++ turns) ++ (last ++ rest))) (fits.graph, fits.loops) in
+    let bounds = bounds_items.again head.0 ((f.lower, f.upper), (f.spent, f.budget)) ((lists ++ turns) ++ (last ++ rest)) fits.bounds in
+    let drawing = (drawing_item m).again bounds.0 f.drawing (last ++ rest) fits.drawing in
+    let end = drawn_item.again drawing.0 tt rest tt in
+    record {
+      number = drawing.0;
+      next = end.0;
+      read = rw (regroup_three (graph_text f.graph f.loops) bounds_part (lists ++ (turns ++ last)) rest, grouped, head.1, bounds.1, drawing.1, end.1) refl;
+    }

@@ -22,12 +22,21 @@ over_at j s = form_at (codes "over") over_form s
 abbrev pub path_at : ℕ → Left → Result (List ℕ × Left) Flaw
 path_at j s = form_at (codes "path") (list_form 1000000) s
 
+abbrev pub five_of : ℕ → List (List ℕ) → Result Start Flaw
+five_of i words = keyed_form (codes "five") (nodes_form 5) i words >>= λ branch. Ok (start.Five branch)
+
+abbrev pub three_of : ℕ → List (List ℕ) → Result Start Flaw
+three_of i words = keyed_form (codes "three") (nodes_form 6) i words >>= λ branch. Ok (start.ThreeThree branch)
+
+abbrev pub extension_of : ℕ → List (List ℕ) → Result Start Flaw
+extension_of i words = keyed_form (codes "extension") (list_form 1000000) i words >>= λ list. Ok (start.Extension list)
+
 -- how an evidence begins: five or six branch nodes, or a list of segments
 unfoldable pub start_of : ℕ → List (List ℕ) → Result Start Flaw
 start_of i words =
-    if has_key (codes "five") words then (keyed_form (codes "five") (nodes_form 5) i words >>= λ branch. Ok (start.Five branch))
-    else if has_key (codes "three") words then (keyed_form (codes "three") (nodes_form 6) i words >>= λ branch. Ok (start.ThreeThree branch))
-    else (keyed_form (codes "extension") (list_form 1000000) i words >>= λ list. Ok (start.Extension list))
+    if has_key (codes "five") words then five_of i words
+    else if has_key (codes "three") words then three_of i words
+    else extension_of i words
 
 -- the rest of an evidence that begins so
 abbrev pub paths_of : Start → Left → Result (Evidence × Left) Flaw
@@ -55,13 +64,25 @@ row_at m j s = do
   evidence ← evidence_at over.1
   Ok (record { edges = over.0.0; orders = over.0.1; evidence = evidence.0 }, evidence.1)
 
+abbrev pub pair_of : ℕ → ℕ → List (List ℕ) → Result (Option Node) Flaw
+pair_of m i words = keyed_form (codes "pair") (edges_form m) i words >>= λ p. Ok (Some (Pair p.0 p.1))
+
+abbrev pub place_of : ℕ → ℕ → List (List ℕ) → Result (Option Node) Flaw
+place_of m i words = keyed_form (codes "place") (edges_form m) i words >>= λ p. Ok (Some (Place p.0 p.1))
+
+abbrev pub leaf_of : ℕ → ℕ → List (List ℕ) → Result (Option Node) Flaw
+leaf_of rows i words = keyed_form (codes "leaf") (leaf_form rows) i words >>= λ l. Ok (Some (Leaf l.0 l.1))
+
+abbrev pub end_of : ℕ → List (List ℕ) → Result (Option Node) Flaw
+end_of i words = keyed_form (codes "end") no_form i words >>= λ u. Ok None
+
 -- a node of a tree over m edges and so many rows, or none at the end
 unfoldable pub node_of : ℕ → ℕ → ℕ → List (List ℕ) → Result (Option Node) Flaw
 node_of m rows i words =
-    if has_key (codes "pair") words then (keyed_form (codes "pair") (edges_form m) i words >>= λ p. Ok (Some (Pair p.0 p.1)))
-    else if has_key (codes "place") words then (keyed_form (codes "place") (edges_form m) i words >>= λ p. Ok (Some (Place p.0 p.1)))
-    else if has_key (codes "leaf") words then (keyed_form (codes "leaf") (leaf_form rows) i words >>= λ l. Ok (Some (Leaf l.0 l.1)))
-    else (keyed_form (codes "end") no_form i words >>= λ u. Ok None)
+    if has_key (codes "pair") words then pair_of m i words
+    else if has_key (codes "place") words then place_of m i words
+    else if has_key (codes "leaf") words then leaf_of rows i words
+    else end_of i words
 
 -- a node in front of the rest, or no node and no rest
 abbrev pub after_node : Option Node → Left → Result (List Node × Left) Flaw → Result (List Node × Left) Flaw
