@@ -3,5 +3,14 @@
 
 mod deletion;
 pub mod laws;
+mod resolution;
+mod smoothing;
+mod splitting;
 
 pub use deletion::delete_edge;
+pub use resolution::{Way, resolve};
+pub use smoothing::smooth;
+pub use splitting::split_node;
+
+#[cfg(test)]
+mod tests;

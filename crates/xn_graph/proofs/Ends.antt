@@ -74,3 +74,9 @@ EndsIn-swap_remove nodes ends s s_in h = EndsIn-from_each nodes (swap_remove end
     ] in
     let P : ℕ × ℕ → Type 0 = λ q. HasNodes nodes q in
     subst P (sym (ends_at-swap_remove ends s s_in i low)) (EndsIn-at nodes ends h from from_in))
+
+-- other ends of one segment
+pub EndsIn-set : (nodes : ℕ) (ends : List (ℕ × ℕ)) (s : ℕ) (p : ℕ × ℕ) → EndsIn nodes ends → HasNodes nodes p → EndsIn nodes (set ends s p)
+EndsIn-set nodes [] s p h new = tt
+EndsIn-set nodes (q ∷ ends) zero p h new = (new.0, new.1, h.2)
+EndsIn-set nodes (q ∷ ends) (suc s) p h new = (h.0, h.1, EndsIn-set nodes ends s p h.2 new)

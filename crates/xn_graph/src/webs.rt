@@ -1,6 +1,6 @@
-ghost use Rattle.std.specs.Prelude.{◌≡◌, ◌+◌, ◌^◌, ◌<◌, ◌≤◌, ◌↔◌, [], ◌∷◌, ◌++◌, IfOk, IsErrOf, IfNone, IfSome, OkIff, OnErr, OnOk, length};
+ghost use Rattle.std.specs.Prelude.{◌≡◌, ◌+◌, ◌-◌, ◌^◌, ◌<◌, ◌≤◌, ◌↔◌, [], ◌∷◌, ◌++◌, IfOk, IsErrOf, IfNone, IfSome, OkIff, OnErr, OnOk, length, set};
 ghost use Rattle.std.specs.List.{swap_remove};
-ghost use Rattle.xn_model.specs.Graph.{ends_at};
+ghost use Rattle.xn_model.specs.Graph.{EndsIn, ends_at};
 ghost use Rattle.xn_graph.specs.Limits.{IsLimitedWeb, HasNodes, graph_of};
 ghost use Rattle.xn_graph.specs.Refusals.{IsRefusedWeb};
 ghost use Rattle.xn_graph.specs.declared.webs.WebErr.{WebErr};
@@ -121,6 +121,24 @@ impl Web {
         ensures { self.new ≡ graph_of self.old.nodes (swap_remove self.old.ends s (0, 0)) }
     {
         self.ends.swap_remove(s as usize);
+    }
+
+    /// Gives a segment other ends. It takes no memory.
+    pub fn set_end(&mut self, s: u32, u: u32, v: u32)
+        requires segment { s < length self.old.ends }
+        requires nodes { HasNodes self.old.nodes (u, v) }
+        ensures { self.new ≡ graph_of self.old.nodes (set self.old.ends s (u, v)) }
+    {
+        self.ends[s as usize] = (u, v);
+    }
+
+    /// Takes away the last node, which has no segment. It takes no memory.
+    pub fn remove_node(&mut self)
+        requires node { 0 < self.old.nodes }
+        requires lone { EndsIn (self.old.nodes - 1) self.old.ends }
+        ensures { self.old ≡ graph_of (self.new.nodes + 1) self.new.ends }
+    {
+        self.nodes -= 1;
     }
 }
 

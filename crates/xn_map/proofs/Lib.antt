@@ -1,9 +1,13 @@
+pub mod Arcs
 pub mod Changes
 pub mod Counting
+pub mod Cut
 pub mod FaceSteps
 pub mod Fill
 pub mod Forest
 pub mod JoinedNodes
 pub mod Marking
+pub mod Passing
 pub mod Removed
 pub mod Rotations
+pub mod Subdivided

@@ -1,7 +1,10 @@
 pub mod Changes
 pub mod Corners
+pub mod Cutting
+pub mod Dividing
 pub mod Faces
 pub mod Forest
 pub mod Listed
 pub mod Marks
+pub mod Passing
 pub mod Rotation

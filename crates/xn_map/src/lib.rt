@@ -12,3 +12,6 @@ mod rotation;
 
 pub use corners::Corner;
 pub use maps::{Map, MapErr};
+
+#[cfg(test)]
+mod tests;

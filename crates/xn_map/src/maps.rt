@@ -8,6 +8,9 @@ ghost use Rattle.xn_map.specs.Rotation.{IsRotationFlaw};
 ghost use Rattle.xn_map.specs.declared.maps.MapErr.TheVariants.{Memory};
 
 mod changes;
+mod dividing;
+mod passing;
+mod splitting;
 
 use crate::components::{component_count, in_one_component};
 use crate::corners::Corner;

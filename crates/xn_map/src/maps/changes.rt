@@ -97,8 +97,8 @@ fn stand(rings: &mut Rings, corner: Corner, z: u32)
     }
 }
 
-// Takes a dart out of its ring, so that it is alone.
-fn take_out(rings: &mut Rings, d: u32)
+/// Takes a dart out of its ring, so that it is alone.
+pub fn take_out(rings: &mut Rings, d: u32)
     requires dart { d < length rings.old }
     requires permutes { Permutes (length rings.old) (at rings.old) }
     ensures { TakesOut d rings.old rings.new }
@@ -107,8 +107,8 @@ fn take_out(rings: &mut Rings, d: u32)
     rings.splice(before, d);
 }
 
-// Puts a dart that is alone in the place of another, which is alone then.
-fn take_place(rings: &mut Rings, x: u32, d: u32)
+/// Puts a dart that is alone in the place of another, which is alone then.
+pub fn take_place(rings: &mut Rings, x: u32, d: u32)
     requires darts { (x < length rings.old) × (d < length rings.old) × (x ≢ d) }
     requires alone { at rings.old d ≡ d }
     requires permutes { Permutes (length rings.old) (at rings.old) }
@@ -119,8 +119,8 @@ fn take_place(rings: &mut Rings, x: u32, d: u32)
     rings.splice(d, x);
 }
 
-// Puts the last segment in the place of one that is out.
-fn fill(rings: &mut Rings, s: u32, last: u32)
+/// Puts the last segment in the place of one that is out.
+pub fn fill(rings: &mut Rings, s: u32, last: u32)
     requires few { last < 2 ^ 30 }
     requires out { IsOut s last rings.old }
     ensures { IsFilled s last rings.old rings.new }

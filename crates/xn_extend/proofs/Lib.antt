@@ -1,0 +1,11 @@
+pub mod Cut
+pub mod First
+pub mod Inserted
+pub mod Last
+pub mod Old
+pub mod Pair
+pub mod Reach
+pub mod Round
+pub mod Same
+pub mod Split
+pub mod UpTo
