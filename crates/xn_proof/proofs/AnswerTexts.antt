@@ -1,10 +1,9 @@
 -- The whole text of an answer is read exactly where it is spelled.
-use Rattle.std.proofs.Common.{◌≡◌, ℕ, zero, suc, ◌+◌, ◌-◌, ◌*◌, ◌^◌, ◌<◌, ◌≤◌, eqb, Bool, true, cond, inl, inr, List, [], ◌∷◌, ◌++◌, length, map, decimal, Option, Some, None, Result, Ok, Err, refl, sym, ap, ◌∙◌, subst, append_assoc, arith}
+use Rattle.std.proofs.Common.{◌≡◌, ℕ, zero, suc, ◌+◌, ◌^◌, ◌<◌, ◌≤◌, eqb, true, cond, inl, inr, List, [], ◌∷◌, ◌++◌, length, map, decimal, Option, Some, None, Result, Ok, Err, refl, sym, ap, ◌∙◌, subst, append_assoc, arith}
 use Rattle.std.proofs.lemmas.Bool.{eqb-true}
 use Rattle.std.proofs.lemmas.List.{append-nil}
 use Rattle.std.specs.Prelude.{codes}
 use Rattle.std.specs.List.{All}
-use Rattle.xn_graph.specs.Limits.{IsLimitedGraph}
 use Rattle.xn_text.specs.Pieces.{words_of}
 use Rattle.xn_kinds.specs.declared.answers.Answer.{Answer}
 use Rattle.xn_kinds.specs.declared.flaws.Flaw.{Flaw}
@@ -18,11 +17,11 @@ use Rattle.xn_proof.specs.Ranges.{edges_form, leaf_form, no_form, one_form}
 use Rattle.xn_proof.specs.Reading.{◌>>=◌, Left, form_at, has_key, keyed_form, line_at, many_at, trailing}
 use Rattle.xn_proof.specs.Spelling.{bounds_text, drawing_text, each, front_text, graph_text, line, node_key, node_line, node_numbers, proof_text, row_text, text_of}
 use Rattle.xn_proof.specs.WellFormed.{IsFront, IsNodeText, IsRowText, WellFormed}
-use Rattle.xn_proof.proofs.FrontTexts.{FrontIs, FrontRead, front_again, front_takes, regroup_three, three_pieces, two_pieces}
+use Rattle.xn_proof.proofs.FrontTexts.{front_again, front_takes, regroup_three}
 use Rattle.xn_proof.proofs.Keyed.{AreSmall, IsKey, lacks_tested, line_is_taken, line_spelled, line_takes}
 use Rattle.xn_proof.proofs.Nodes.{line_shortens}
 use Rattle.xn_proof.proofs.ProofTexts.{choose, row_item}
-use Rattle.xn_proof.proofs.Shapes.{IsItem, Many, form_item, keyed_form_again, keyed_form_takes, many_again, many_takes}
+use Rattle.xn_proof.proofs.Shapes.{IsItem, form_item, keyed_form_again, keyed_form_takes, many_again, many_takes}
 use Rattle.xn_proof.proofs.Steps.{bind_ok, guard, ok, ok_is, all_cons, all_first, all_none, all_rest}
 use Rattle.xn_proof.proofs.Values.{IsLeaf, edges_is, leaf_is, leaf_numbers, no_is, one_is}
 

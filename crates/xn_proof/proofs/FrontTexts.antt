@@ -1,5 +1,5 @@
 -- The lines up to `drawn` are read exactly where they are spelled.
-use Rattle.std.proofs.Common.{◌≡◌, ℕ, zero, suc, ◌+◌, ◌-◌, ◌*◌, ◌^◌, ◌<◌, ◌≤◌, List, [], ◌∷◌, ◌++◌, length, Result, Ok, Err, refl, sym, ap, ◌∙◌, subst, append_assoc, arith}
+use Rattle.std.proofs.Common.{◌≡◌, ℕ, zero, suc, ◌+◌, ◌-◌, ◌*◌, ◌^◌, ◌<◌, ◌≤◌, List, [], ◌∷◌, ◌++◌, length, Result, Ok, refl, sym, ap, ◌∙◌, subst, append_assoc, arith}
 use Rattle.std.proofs.lemmas.List.{get_or_default}
 use Rattle.std.specs.Prelude.{codes}
 use Rattle.std.specs.List.{All}
@@ -13,11 +13,11 @@ use Rattle.xn_proof.specs.declared.front.Front.{Front}
 use Rattle.xn_proof.specs.Fronts.{along_at, bounds_at, drawing_at, edge_at, front_at, graph_at, next_of, turn_at}
 use Rattle.xn_proof.specs.Ranges.{effort_form, just_form, no_form, one_form, two_form}
 use Rattle.xn_proof.specs.Reading.{◌>>=◌, Left, form_at, many_at}
-use Rattle.xn_proof.specs.Spelling.{along_line, bounds_text, drawing_text, each, edge_line, front_text, graph_text, line, turn_line, turns_of}
+use Rattle.xn_proof.specs.Spelling.{along_line, bounds_text, each, edge_line, front_text, graph_text, line, turn_line, turns_of}
 use Rattle.xn_proof.specs.WellFormed.{AreBounds, IsDrawingText, IsFront, IsList}
-use Rattle.xn_proof.proofs.Keyed.{IsKey, lacks_tested}
-use Rattle.xn_proof.proofs.Shapes.{IsItem, Many, form_item, many_again, many_takes}
-use Rattle.xn_proof.proofs.Steps.{bind_ok, ok, ok_is, all_cons, all_first, all_none, all_rest}
+use Rattle.xn_proof.proofs.Keyed.{lacks_tested}
+use Rattle.xn_proof.proofs.Shapes.{IsItem, form_item, many_again, many_takes}
+use Rattle.xn_proof.proofs.Steps.{bind_ok, ok_is, all_cons, all_first, all_none, all_rest}
 use Rattle.xn_proof.proofs.Values.{edge_is, effort_is, just_is, list_is, no_is, one_is, two_is}
 
 -- ---- items

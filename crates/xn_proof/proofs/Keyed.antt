@@ -1,5 +1,5 @@
 -- A line of a key and numbers is read exactly where it is spelled.
-use Rattle.std.proofs.Common.{◌≡◌, ◌≢◌, ℕ, zero, suc, ◌+◌, ◌^◌, ◌<◌, Bool, true, false, not, ◌&&◌, cond, ltb, eqb, List, [], ◌∷◌, ◌++◌, length, map, take, drop, get_or, decimal, Option, Some, None, Result, Ok, Err, refl, sym, ap, ◌∙◌, subst, append_assoc, add-one, arith, length-append}
+use Rattle.std.proofs.Common.{◌≡◌, ◌≢◌, ℕ, suc, ◌+◌, ◌^◌, ◌<◌, Bool, true, false, not, ◌&&◌, ltb, eqb, List, [], ◌∷◌, ◌++◌, length, map, take, drop, get_or, decimal, Some, Ok, refl, sym, ap, ◌∙◌, subst, append_assoc, add-one, arith, length-append}
 use Rattle.std.proofs.Math.ListN.{get_or-append}
 use Rattle.std.proofs.Math.Seq.{drop-cons, get_or-append_seam}
 use Rattle.std.proofs.lemmas.Bool.{ltb-true, lt-ltb, eqb-true, eq-eqb}
@@ -15,7 +15,6 @@ use Rattle.xn_text.specs.declared.numbers.WordNumber.TheVariants.{Not, Large, Is
 use Rattle.xn_text.proofs.Cuts.{fails_test, joined_are_found, words_are_the_line}
 use Rattle.xn_text.proofs.Digits.{is_spelled, spelled_is}
 use Rattle.xn_text.proofs.Spellings.{spelling_lacks}
-use Rattle.xn_kinds.specs.declared.flaws.Flaw.{Flaw}
 use Rattle.xn_proof.specs.Reading.{◌>>=◌, Left, each_at, keyed, line_at, numbers_at, syntax, value_at, value_of}
 use Rattle.xn_proof.specs.Spelling.{line}
 use Rattle.xn_proof.proofs.Steps.{bind_ok, guard, ok, ok_is, all_cons, all_first, all_none, all_rest}

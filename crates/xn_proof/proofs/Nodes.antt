@@ -1,5 +1,5 @@
 -- Reading the nodes of a tree up to the line `end`.
-use Rattle.std.proofs.Common.{◌≡◌, ℕ, zero, suc, ◌-◌, ◌+◌, ◌≤◌, ◌<◌, ltb, List, [], ◌∷◌, ◌++◌, Option, Some, None, Result, Ok, Err, length, drop, refl, sym, ap, ◌∙◌, append_assoc, arith, length-drop}
+use Rattle.std.proofs.Common.{◌≡◌, ℕ, zero, suc, ◌+◌, ◌≤◌, ◌<◌, ltb, List, [], ◌∷◌, ◌++◌, Some, None, Result, Ok, Err, length, drop, refl, sym, ap, ◌∙◌, append_assoc, arith, length-drop}
 use Rattle.std.proofs.lemmas.Bool.{ltb-true}
 use Rattle.std.proofs.lemmas.List.{append-nil}
 use Rattle.std.specs.List.{before_first, after_first, position_or_len}
@@ -8,7 +8,7 @@ use Rattle.xn_kinds.specs.declared.trees.Node.{Node}
 use Rattle.xn_text.specs.Pieces.{is_line_end, words_of}
 use Rattle.xn_proof.specs.declared.flaw.AnswerErr.{AnswerErr}
 use Rattle.xn_proof.specs.declared.flaw.AnswerErr.TheVariants as errors
-use Rattle.xn_proof.specs.Proofs.{after_node, node_of, nodes_at}
+use Rattle.xn_proof.specs.Proofs.{node_of, nodes_at}
 use Rattle.xn_proof.specs.Reading.{◌>>=◌, Fails, Left, line_at, syntax}
 use Rattle.xn_proof.proofs.Loop.{with_items}
 use Rattle.xn_proof.proofs.Steps.{guard, ok, ok_is}

@@ -1,27 +1,24 @@
 -- The lines after `drawn` are read exactly where they are spelled.
-use Rattle.std.proofs.Common.{◌≡◌, ℕ, zero, suc, ◌+◌, ◌-◌, ◌*◌, ◌^◌, ◌<◌, ◌≤◌, Bool, true, false, cond, inl, inr, ◌⊎◌, List, [], ◌∷◌, ◌++◌, length, map, decimal, Option, Some, None, Result, Ok, Err, refl, sym, ap, ◌∙◌, subst, append_assoc, length-append, arith}
+use Rattle.std.proofs.Common.{◌≡◌, ℕ, suc, ◌+◌, ◌^◌, ◌<◌, ◌≤◌, Bool, true, false, cond, inl, inr, ◌⊎◌, List, [], ◌∷◌, ◌++◌, length, map, decimal, Result, Ok, refl, sym, ap, ◌∙◌, subst, arith}
 use Rattle.std.specs.Prelude.{codes}
-use Rattle.std.specs.List.{All, join_with_byte}
+use Rattle.std.specs.List.{All}
 use Rattle.xn_text.specs.Pieces.{words_of}
 use Rattle.xn_kinds.specs.declared.flaws.Flaw.{Flaw}
 use Rattle.xn_kinds.specs.declared.rows.Evidence.{Evidence}
 use Rattle.xn_kinds.specs.declared.rows.Evidence.TheVariants.{Five, ThreeThree, Extension}
 use Rattle.xn_kinds.specs.declared.rows.Row.{Row}
-use Rattle.xn_kinds.specs.declared.trees.Node.{Node}
-use Rattle.xn_kinds.specs.declared.trees.Node.TheVariants.{Pair, Place, Leaf}
 use Rattle.xn_proof.specs.declared.evidence.Start.{Start}
 use Rattle.xn_proof.specs.declared.evidence.Start.TheVariants as start
-use Rattle.xn_proof.specs.Proofs.{after_node, end_of, evidence_at, extension_of, five_of, leaf_of, node_of, nodes_at, over_at, overs_at, pair_of, path_at, paths_of, place_of, row_at, start_of, three_of}
-use Rattle.xn_proof.specs.Ranges.{edges_form, leaf_form, list_form, no_form, nodes_form, one_form, over_form}
+use Rattle.xn_proof.specs.Proofs.{evidence_at, extension_of, five_of, over_at, overs_at, path_at, paths_of, row_at, start_of, three_of}
+use Rattle.xn_proof.specs.Ranges.{list_form, nodes_form, one_form}
 use Rattle.xn_proof.specs.Reading.{◌>>=◌, Left, form_at, has_key, keyed_form, line_at, many_at}
-use Rattle.xn_proof.specs.Spelling.{each, evidence_key, evidence_numbers, evidence_paths, evidence_text, line, node_key, node_line, node_numbers, over_line, overs_of, path_line, row_text}
-use Rattle.xn_proof.specs.WellFormed.{AreNodes, IsEvidenceText, IsList, IsNodeText, IsRowText}
+use Rattle.xn_proof.specs.Spelling.{each, evidence_key, evidence_numbers, evidence_paths, evidence_text, line, over_line, overs_of, path_line, row_text}
+use Rattle.xn_proof.specs.WellFormed.{AreNodes, IsEvidenceText, IsList, IsRowText}
 use Rattle.xn_proof.proofs.FrontTexts.{regroup_three, regroup_two, three_pieces, two_pieces}
-use Rattle.xn_proof.proofs.Keyed.{AreSmall, IsKey, keyed_again, lacks_tested, line_is_taken, line_spelled, line_takes, same_bytes}
-use Rattle.xn_proof.proofs.Nodes.{line_shortens}
-use Rattle.xn_proof.proofs.Shapes.{IsItem, Many, form_item, keyed_form_again, keyed_form_takes, many_again, many_takes}
-use Rattle.xn_proof.proofs.Steps.{bind_ok, ok, ok_is, all_cons, all_first, all_none, all_rest}
-use Rattle.xn_proof.proofs.Values.{IsLeaf, IsOver, edges_is, leaf_is, leaf_numbers, list_is, no_is, nodes_is, one_is, over_is, over_numbers}
+use Rattle.xn_proof.proofs.Keyed.{AreSmall, IsKey, lacks_tested, line_is_taken, line_spelled, line_takes}
+use Rattle.xn_proof.proofs.Shapes.{IsItem, form_item, keyed_form_again, keyed_form_takes, many_again, many_takes}
+use Rattle.xn_proof.proofs.Steps.{bind_ok, ok_is, all_cons, all_first, all_none, all_rest}
+use Rattle.xn_proof.proofs.Values.{IsOver, list_is, nodes_is, one_is, over_is, over_numbers}
 
 -- the branch that was taken
 pub choose : {A : Type 0} (b : Bool) (x y z : A) → cond b x y ≡ z → (x ≡ z) ⊎ (y ≡ z)

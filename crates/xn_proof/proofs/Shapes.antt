@@ -1,12 +1,11 @@
 -- What forms say of numbers, and how items and lists of items are spelled.
-use Rattle.std.proofs.Common.{◌≡◌, ◌≢◌, ℕ, zero, suc, ◌+◌, ◌-◌, ◌*◌, ◌^◌, ◌<◌, ◌≤◌, Bool, true, false, cond, ltb, eqb, List, [], ◌∷◌, ◌++◌, length, map, Option, Some, None, Result, Ok, Err, refl, sym, ap, ◌∙◌, subst, append_assoc, decimal, arith}
+use Rattle.std.proofs.Common.{◌≡◌, ℕ, zero, suc, ◌+◌, List, [], ◌∷◌, ◌++◌, length, map, Option, Some, Result, Ok, refl, sym, ap, ◌∙◌, subst, append_assoc, decimal}
 use Rattle.std.specs.List.{All}
 use Rattle.xn_kinds.specs.declared.flaws.Flaw.{Flaw}
-use Rattle.xn_text.specs.Pieces.{words_of}
-use Rattle.xn_proof.specs.Reading.{◌>>=◌, Left, form_at, has_key, keyed, keyed_form, line_at, many_at, numbers_at}
+use Rattle.xn_proof.specs.Reading.{◌>>=◌, Left, form_at, keyed, keyed_form, many_at, numbers_at}
 use Rattle.xn_proof.specs.Spelling.{each, line}
-use Rattle.xn_proof.proofs.Keyed.{AreSmall, IsKey, keyed_again, keyed_takes, line_is_taken, line_spelled, line_takes, numbers_again, numbers_takes}
-use Rattle.xn_proof.proofs.Steps.{bind_ok, ok, ok_is, all_cons, all_first, all_none, all_rest}
+use Rattle.xn_proof.proofs.Keyed.{AreSmall, IsKey, keyed_again, keyed_takes, numbers_again, numbers_takes}
+use Rattle.xn_proof.proofs.Steps.{bind_ok, ok_is, all_cons, all_first, all_none, all_rest}
 
 -- a form says x of just the numbers of x, where x keeps P
 pub record IsForm {X : Type 0} (form : ℕ → List (Option ℕ) → Result X Flaw) (numbers : X → List ℕ) (P : X → Type 0) : Type 0 where

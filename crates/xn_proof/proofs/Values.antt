@@ -1,9 +1,8 @@
 -- Each form says of numbers in their ranges what they are.
-use Rattle.std.proofs.Common.{◌≡◌, ◌≢◌, ℕ, zero, suc, ◌+◌, ◌-◌, ◌*◌, ◌^◌, ◌<◌, ◌≤◌, true, false, cond, ltb, eqb, List, [], ◌∷◌, length, map, Option, Some, None, Result, Ok, Err, refl, sym, ap, ◌∙◌, subst, arith}
+use Rattle.std.proofs.Common.{◌≡◌, ◌≢◌, ℕ, suc, ◌-◌, ◌*◌, ◌^◌, ◌<◌, ◌≤◌, true, cond, ltb, eqb, List, [], ◌∷◌, length, map, Option, Some, None, Ok, Err, refl, sym, ap, ◌∙◌, subst, arith}
 use Rattle.std.proofs.lemmas.Bool.{eqb-true, eq-eqb, ltb-true, ltb-false, lt-ltb, le-ltb, ne_eqb, both_ways}
 use Rattle.std.specs.List.{All}
 use Rattle.xn_graph.specs.Limits.{IsEdge}
-use Rattle.xn_kinds.specs.declared.flaws.Flaw.{Flaw}
 use Rattle.xn_proof.specs.Ranges.{at_most, below, counted, edge_form, edges_form, effort_form, factor, is_half, is_value, just_form, leaf_form, list_form, no_form, nodes_form, one_form, over_form, parts_at, two_form}
 use Rattle.xn_proof.specs.Reading.{◌>>=◌, each_at, loop_flaw, out_of_range, syntax}
 use Rattle.xn_proof.specs.Spelling.{numbers_of}

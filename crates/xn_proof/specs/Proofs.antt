@@ -1,5 +1,5 @@
 -- The lines after `drawn`: rows, the tree, and the end.
-use Rattle.std.specs.Prelude.{ℕ, zero, suc, ◌-◌, ◌^◌, ◌==◌, List, [], ◌∷◌, length, map, Option, Some, None, Result, Ok, Err, if◌then◌else◌, codes}
+use Rattle.std.specs.Prelude.{ℕ, zero, suc, ◌==◌, List, [], ◌∷◌, length, map, Option, Some, None, Result, Ok, Err, if◌then◌else◌, codes}
 use Rattle.xn_kinds.specs.declared.answers.Answer.{Answer}
 use Rattle.xn_kinds.specs.declared.flaws.Flaw.{Flaw}
 use Rattle.xn_kinds.specs.declared.rows.Evidence.{Evidence}

@@ -1,6 +1,4 @@
 use Rattle.std.proofs.Common.{rules, arith}
-use Rattle.std.proofs.lemmas.Bool.{eqb-true}
-use Rattle.std.proofs.lemmas.Grind.{common_steps}
 use Rattle.std.proofs.lemmas.Result.{err_from_is_err_and}
 use Rattle.xn_proof.specs.Ranges.{parts_at}
 use Rattle.xn_proof.proofs.Parts.{parts_on, parts_stop_row, parts_stop_factor, parts_done, parts_odd}
