@@ -1,90 +1,99 @@
 -- The verdict in the words of the answer.
-use Rattle.std.proofs.Common.{◌≡◌, ℕ, ◌+◌, ◌*◌, ◌<◌, inl, inr, List, length, Result, Ok, Err, refl, sym, ap, subst, ◌∙◌, arith}
-use Rattle.std.proofs.lemmas.Bool.{cases_lt}
-use Rattle.xn_model.specs.Map.{IsMap, IsFlatMap, tail_of}
-use Rattle.xn_graph.specs.Counts.{IsBalanced}
-use Rattle.xn_graph.specs.declared.counts.Euler.{Euler}
-use Rattle.xn_kinds.specs.declared.flaws.DrawFlaw.TheVariants.{Length, Order, Dependent, Rotation, Touch, Genus}
+use Rattle.std.proofs.Common.{◌≡◌, ℕ, inl, inr, List, length, Result, Ok, Err, refl, sym, ap, subst, ◌∙◌}
+use Rattle.xn_draw.specs.Seen.{IsSeen}
+use Rattle.xn_draw.specs.declared.results.Seen.{Seen}
+use Rattle.xn_draw.proofs.Excluded.{no_flaw}
+use Rattle.xn_graph.specs.Limits.{IsLimitedGraph}
+use Rattle.xn_kinds.specs.declared.answers.Answer.{Answer}
 use Rattle.xn_kinds.specs.declared.flaws.Flaw.{Flaw}
 use Rattle.xn_kinds.specs.declared.flaws.FlawKind.{FlawKind}
-use Rattle.xn_kinds.specs.declared.flaws.FlawKind.TheVariants.{Unread, Syntax, Number, Loop, SizeDiffers, GraphDiffers, Draw, Count, Row, TreeShape, Weak, Trailing}
-use Rattle.xn_map.specs.Rotation.{IsFirst, IsRotationFlaw}
-use Rattle.xn_proof.specs.Plain.{Plain, front_at, tail_at, drawn_line}
-use Rattle.xn_proof.proofs.Read.{read_is_spelled}
-use Rattle.xn_proof.proofs.Spelled.{spelled_is_read}
-use Rattle.xn_app.specs.Verdict.{graph_of, turns_of, IsPlainDrawing, TurnsFail, AfterDrawn, AfterFront, Verdict}
+use Rattle.xn_kinds.specs.declared.flaws.FlawKind.TheVariants.{Syntax, Number, Loop, SizeDiffers, GraphDiffers, Draw, Count, Row, TreeShape, Weak, Trailing}
+use Rattle.xn_kinds.specs.declared.rows.Row as row
+use Rattle.xn_kinds.specs.declared.trees.Node.{Node}
+use Rattle.xn_proof.specs.declared.front.Front.{Front}
+use Rattle.xn_proof.specs.Fronts.{front_at}
+use Rattle.xn_proof.specs.Proofs.{answer_of, proof_at}
+use Rattle.xn_proof.specs.Reading.{◌>>=◌, Left}
+use Rattle.xn_proof.specs.Spelling.{text_of}
+use Rattle.xn_proof.specs.WellFormed.{WellFormed}
+use Rattle.xn_proof.proofs.AnswerTexts.{answer_takes, spelled_is_read}
+use Rattle.xn_proof.proofs.Steps.{bind_ok, ok_is}
+use Rattle.xn_app.specs.Verdict.{AfterDrawn, AfterFront, DrawnFails, HasProof, IsDrawn, SpellsDrawing, Verdict}
 
--- a map has no rotation flaw
-no_rotation_flaw : (nodes : ℕ) (ends : List (ℕ × ℕ)) (next : ℕ → ℕ) (d : ℕ) → IsMap nodes ends next → IsRotationFlaw ends next d → ⊥
-no_rotation_flaw nodes ends next d map flaw = elim flaw.1 [
-  | inl wrong ↦ elim wrong.here [
-    | inl far ↦ let low = map.permutes.below d flaw.0 in omega (arith, far, low)
-    | inr rest ↦ elim rest [
-      | inl away ↦ away (map.stays d flaw.0)
-      | inr taken ↦ let same = map.permutes.apart taken.0 d (omega (arith, taken.1, flaw.0)) flaw.0 taken.2 in omega (arith, same, taken.1)
-    ]
-  ]
-  | inr apart ↦
-      let here = apart.1.here in
-      let first = here.1 in
-      here.2 (map.round here.0 d (least_below here.0 first) flaw.0 first.here)
+-- an answer of a front and a proof
+abbrev made : Front → List row.Row × List Node → Answer
+made f p = record { graph = f.graph; loops = f.loops; lower = f.lower; upper = f.upper; spent = f.spent; budget = f.budget; drawing = f.drawing; rows = p.0; tree = p.1 }
+
+seen_by : (text : List ℕ) (seen : Seen) (read : Result (Front × Left) Flaw) → front_at (1, text) ≡ read → AfterFront read (Ok seen) → SpellsDrawing text seen
+unfolding answer_of
+seen_by text seen (Ok front) e after =
+    let drawn = after.0 in
+    let proof = after.1 in
+    let said : answer_of text ≡ Ok (made front.0 proof.0) = rw (e, proof.1) refl in
+    let spelled = answer_takes text (made front.0 proof.0) said in
+    record { answer = made front.0 proof.0; well_formed = spelled.0; text_is = spelled.1; is_seen = drawn.is_seen; count = drawn.count }
+seen_by text seen (Err flaw) e after = absurd cc
+
+pub seen_are_spelled : (text : List ℕ) (seen : Seen) → Verdict text (Ok seen) → SpellsDrawing text seen
+seen_are_spelled text seen verdict = seen_by text seen (front_at (1, text)) refl verdict
+
+-- the parts that were read of a text that spells a drawing
+record PartsRead (text : List ℕ) (seen : Seen) : Type 0 where
+  front : Front
+  left : Left
+  front_read : front_at (1, text) ≡ Ok (front, left)
+  drawn : IsDrawn front seen
+  proof : HasProof front left
+  limited : IsLimitedGraph front.graph
+
+parts_read : (text : List ℕ) (seen : Seen) → SpellsDrawing text seen → PartsRead text seen
+unfolding answer_of
+parts_read text seen h =
+    let said : answer_of text ≡ Ok h.answer = ap answer_of h.text_is ∙ spelled_is_read h.answer h.well_formed in
+    let f = bind_ok (front_at (1, text)) (λ f. proof_at (length f.0.graph.ends) f.1 >>= λ p. Ok (made f.0 p)) h.answer said in
+    let p = bind_ok (proof_at (length f.0.0.graph.ends) f.0.1) (λ p. Ok (made f.0.0 p)) h.answer f.2 in
+    let same : made f.0.0 p.0 ≡ h.answer = ok_is (made f.0.0 p.0) h.answer p.2 in
+    let is_seen = subst (λ (a : Answer). IsSeen a.graph a.drawing.orders a.drawing.next seen) (sym same) h.is_seen in
+    let count = subst (λ (a : Answer). a.upper ≡ seen.crossings) (sym same) h.count in
+    record {
+      front = f.0.0;
+      left = f.0.1;
+      front_read = f.1;
+      drawn = record { is_seen = is_seen; count = count };
+      proof = (p.0, p.1);
+      limited = subst (λ (a : Answer). IsLimitedGraph a.graph) (sym same) h.well_formed.graph;
+    }
+
+pub spelled_are_seen : (text : List ℕ) (seen : Seen) → SpellsDrawing text seen → Verdict text (Ok seen)
+spelled_are_seen text seen h =
+    let parts = parts_read text seen h in
+    subst (λ r. AfterFront r (Ok seen)) (sym parts.front_read) (parts.drawn, parts.proof)
+
+-- a drawing with its number of crossings doesn't fail
+drawn_stands : (f : Front) (seen : Seen) (kind : FlawKind) → IsLimitedGraph f.graph → IsDrawn f seen → DrawnFails f kind → ⊥
+drawn_stands f seen (Draw flaw) limited drawn fails = no_flaw f.graph f.drawing.orders f.drawing.next drawn.is_seen.0 flaw fails
+drawn_stands f seen (Count said counted) limited drawn fails =
+    fails.differ (fails.said_is ∙ drawn.count ∙ ap (λ s. s.crossings) drawn.is_seen.1 ∙ sym fails.counted_is)
+drawn_stands f seen Syntax limited drawn fails = fails
+drawn_stands f seen Number limited drawn fails = fails
+drawn_stands f seen (Loop e) limited drawn fails = fails
+drawn_stands f seen SizeDiffers limited drawn fails = fails
+drawn_stands f seen (GraphDiffers e) limited drawn fails = fails
+drawn_stands f seen (Row i flaw) limited drawn fails = fails
+drawn_stands f seen (TreeShape n) limited drawn fails = fails
+drawn_stands f seen (Weak bound need) limited drawn fails = fails
+drawn_stands f seen Trailing limited drawn fails = fails
+
+differ : (p : List row.Row × List Node) (flaw : Flaw) → Path (Result (List row.Row × List Node) Flaw) (Ok p) (Err flaw) → ⊥
+differ p flaw e = absurd cc
+
+not_refused : (f : Front) (left : Left) (seen : Seen) (flaw : Flaw) → IsLimitedGraph f.graph → IsDrawn f seen → HasProof f left → AfterDrawn f left (Err flaw) → ⊥
+not_refused f left seen flaw limited drawn proof refused = elim refused [
+  | inl here ↦ drawn_stands f seen flaw.kind limited drawn here.1
+  | inr behind ↦ differ proof.0 flaw (sym proof.1 ∙ behind.1)
 ]
-  where
-    least_below : (c : ℕ) → IsFirst (λ e. tail_of ends e ≡ tail_of ends d) c → c < 2 * length ends
-    least_below c first = elim (cases_lt c (2 * length ends)) [
-      | inl low ↦ low
-      | inr high ↦ absurd (first.before d (omega (arith, high, flaw.0)) refl)
-    ]
 
--- turns that are a flat map don't fail
-turns_stand : (p : Plain) (kind : FlawKind) → IsFlatMap (graph_of p) (turns_of p) → TurnsFail p kind → ⊥
-turns_stand p Unread flat fail = fail
-turns_stand p Syntax flat fail = fail
-turns_stand p Number flat fail = fail
-turns_stand p (Loop e) flat fail = fail
-turns_stand p SizeDiffers flat fail = fail
-turns_stand p (GraphDiffers e) flat fail = fail
-turns_stand p (Count said counted) flat fail = fail
-turns_stand p (Row i flaw) flat fail = fail
-turns_stand p (TreeShape n) flat fail = fail
-turns_stand p (Weak bound need) flat fail = fail
-turns_stand p Trailing flat fail = fail
-turns_stand p (Draw Length) flat fail = fail
-turns_stand p (Draw (Order e f)) flat fail = fail
-turns_stand p (Draw (Dependent e f)) flat fail = fail
-turns_stand p (Draw (Touch e f)) flat fail = fail
-turns_stand p (Draw (Rotation d)) flat fail = no_rotation_flaw p.nodes p.ends (turns_of p) d flat.is_map fail
-turns_stand p (Draw (Genus counts)) flat fail = fail.2 (subst IsBalanced (sym fail.1) flat.flat)
-
-counted : (text : List ℕ) (counts : Euler) (read : Result (Plain × List ℕ) Flaw) → front_at text ≡ read → AfterFront read (Ok counts) → IsPlainDrawing text counts
-counted text counts (Ok front) e after =
-    let spelled = read_is_spelled front.0 text front.1 e after.2 in
-    record { plain = front.0; is_plain = spelled.0; text_is = spelled.1; is_flat_map = after.0; counts_are = after.1 }
-counted text counts (Err flaw) e after = absurd cc
-
-pub counts_are_of_drawings : (text : List ℕ) (counts : Euler) → Verdict text (Ok counts) → IsPlainDrawing text counts
-counts_are_of_drawings text counts verdict = counted text counts (front_at text) refl verdict
-
-read_of : (text : List ℕ) (counts : Euler) → (h : IsPlainDrawing text counts) → (rest : List ℕ) × (front_at text ≡ Ok (h.plain, rest)) × (tail_at (drawn_line h.plain + 1) rest ≡ Ok tt)
-read_of text counts h =
-    let read = spelled_is_read h.plain h.is_plain in
-    (read.0, ap front_at h.text_is ∙ read.1, read.2)
-
-pub drawings_have_counts : (text : List ℕ) (counts : Euler) → IsPlainDrawing text counts → Verdict text (Ok counts)
-drawings_have_counts text counts h =
-    let read = read_of text counts h in
-    subst (λ r. AfterFront r (Ok counts)) (sym read.1) (h.is_flat_map, h.counts_are, read.2)
-
-not_refused : (p : Plain) (rest : List ℕ) (flaw : Flaw) → IsFlatMap (graph_of p) (turns_of p) → tail_at (drawn_line p + 1) rest ≡ Ok tt → AfterDrawn p rest (Err flaw) → ⊥
-not_refused p rest flaw flat tail refused = elim refused [
-  | inl turns ↦ turns_stand p flaw.kind flat turns.1
-  | inr behind ↦ differ (sym tail ∙ behind.1)
-]
-  where
-    differ : Path (Result (Unit {0}) Flaw) (Ok tt) (Err flaw) → ⊥
-    differ e = absurd cc
-
-pub drawings_are_taken : (text : List ℕ) (counts : Euler) (flaw : Flaw) → IsPlainDrawing text counts → Verdict text (Err flaw) → ⊥
-drawings_are_taken text counts flaw h verdict =
-    let read = read_of text counts h in
-    not_refused h.plain read.0 flaw h.is_flat_map read.2 (subst (λ r. AfterFront r (Err flaw)) read.1 verdict)
+pub drawings_are_taken : (text : List ℕ) (seen : Seen) (flaw : Flaw) → SpellsDrawing text seen → Verdict text (Err flaw) → ⊥
+drawings_are_taken text seen flaw h verdict =
+    let parts = parts_read text seen h in
+    not_refused parts.front parts.left seen flaw parts.limited parts.drawn parts.proof (subst (λ r. AfterFront r (Err flaw)) parts.front_read verdict)

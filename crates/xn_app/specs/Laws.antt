@@ -1,13 +1,13 @@
 -- The verdict in the words of the answer.
 use Rattle.std.specs.Prelude.{ℕ, List, Ok, Err, ◌↔◌}
-use Rattle.xn_graph.specs.declared.counts.Euler.{Euler}
+use Rattle.xn_draw.specs.declared.results.Seen.{Seen}
 use Rattle.xn_kinds.specs.declared.flaws.Flaw.{Flaw}
-use Rattle.xn_app.specs.Verdict.{Verdict, IsPlainDrawing}
+use Rattle.xn_app.specs.Verdict.{SpellsDrawing, Verdict}
 
--- the counts are given exactly where the text is a plain answer whose turns are a drawing
-abbrev pub CountsAreOfDrawings : Type 0
-CountsAreOfDrawings = (text : List ℕ) (counts : Euler) → Verdict text (Ok counts) ↔ IsPlainDrawing text counts
+-- a drawing is seen exactly where the text is the spelling of an answer with that drawing
+abbrev pub SeenWhereSpelled : Type 0
+SeenWhereSpelled = (text : List ℕ) (seen : Seen) → Verdict text (Ok seen) ↔ SpellsDrawing text seen
 
 -- no such text is refused
 abbrev pub DrawingsAreTaken : Type 0
-DrawingsAreTaken = (text : List ℕ) (counts : Euler) (flaw : Flaw) → IsPlainDrawing text counts → ¬ (Verdict text (Err flaw))
+DrawingsAreTaken = (text : List ℕ) (seen : Seen) (flaw : Flaw) → SpellsDrawing text seen → ¬ (Verdict text (Err flaw))

@@ -1,6 +1,6 @@
 -- The codes of the ends, and at which nothing is written.
 use Rattle.std.specs.Prelude.{ℕ, Result, Ok, Err}
-use Rattle.xn_graph.specs.declared.counts.Euler.{Euler}
+use Rattle.xn_draw.specs.declared.results.Seen.{Seen}
 use Rattle.xn_kinds.specs.declared.flaws.Flaw.{Flaw}
 use Rattle.xn_app.specs.declared.status.Status.{Status}
 use Rattle.xn_app.specs.declared.status.Status.TheVariants.{Done, Refused, Words, Limit, Read, Write, Memory}
@@ -45,6 +45,6 @@ IsJudged Read = ⊥
 IsJudged Memory = ⊥
 
 -- the end to which a verdict leads
-abbrev pub status_of : Result Euler Flaw → Status
-status_of (Ok counts) = Done
+abbrev pub status_of : Result Seen Flaw → Status
+status_of (Ok seen) = Done
 status_of (Err flaw) = Refused flaw

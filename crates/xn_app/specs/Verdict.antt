@@ -1,85 +1,88 @@
--- What is said of the text of an answer.
-use Rattle.std.specs.Prelude.{◌≡◌, ◌⊎◌, ℕ, ◌+◌, List, Result, Ok, Err}
-use Rattle.xn_model.specs.Graph.{Graph}
-use Rattle.xn_model.specs.Lists.{at}
-use Rattle.xn_model.specs.Map.{IsMap, IsFlatMap}
-use Rattle.xn_graph.specs.Counts.{euler_of, IsBalanced}
-use Rattle.xn_graph.specs.declared.counts.Euler.{Euler}
-use Rattle.xn_map.specs.Rotation.{IsRotationFlaw}
-use Rattle.xn_proof.specs.declared.flaw.AnswerErr.{AnswerErr}
-use Rattle.xn_proof.specs.declared.flaw.AnswerErr.TheVariants as errors
-use Rattle.xn_kinds.specs.declared.flaws.DrawFlaw.TheVariants.{Length, Order, Dependent, Rotation, Touch, Genus}
+-- What is said of the text of an answer, of which only the drawing is judged.
+use Rattle.std.specs.Prelude.{◌≡◌, ◌≢◌, ◌⊎◌, ℕ, List, length, Result, Ok, Err}
+use Rattle.xn_model.specs.Drawing.{IsListedDrawing, order_of}
+use Rattle.xn_model.specs.Orders.{crossing_count}
+use Rattle.xn_draw.specs.Flaws.{IsFlaw}
+use Rattle.xn_draw.specs.Seen.{IsSeen}
+use Rattle.xn_draw.specs.declared.results.Seen.{Seen}
+use Rattle.xn_kinds.specs.declared.answers.Answer.{Answer}
 use Rattle.xn_kinds.specs.declared.flaws.Flaw.{Flaw}
 use Rattle.xn_kinds.specs.declared.flaws.FlawKind.{FlawKind}
-use Rattle.xn_kinds.specs.declared.flaws.FlawKind.TheVariants.{Unread, Syntax, Number, Loop, SizeDiffers, GraphDiffers, Draw, Count, Row, TreeShape, Weak, Trailing}
-use Rattle.xn_proof.specs.Plain.{Plain, IsPlain, next_of, drawn_line, front_at, tail_at}
+use Rattle.xn_kinds.specs.declared.flaws.FlawKind.TheVariants.{Syntax, Number, Loop, SizeDiffers, GraphDiffers, Draw, Count, Row, TreeShape, Weak, Trailing}
+use Rattle.xn_kinds.specs.declared.rows.Row as row
+use Rattle.xn_kinds.specs.declared.trees.Node.{Node}
+use Rattle.xn_proof.specs.declared.flaw.AnswerErr.{AnswerErr}
+use Rattle.xn_proof.specs.declared.flaw.AnswerErr.TheVariants as errors
+use Rattle.xn_proof.specs.declared.front.Front.{Front}
+use Rattle.xn_proof.specs.Fronts.{front_at}
+use Rattle.xn_proof.specs.Proofs.{proof_at}
+use Rattle.xn_proof.specs.Reading.{Left}
 use Rattle.xn_proof.specs.Spelling.{text_of}
+use Rattle.xn_proof.specs.WellFormed.{WellFormed}
 
--- the graph of a plain answer
-abbrev pub graph_of : Plain → Graph
-graph_of p = record { nodes = p.nodes; ends = p.ends }
+-- it is a drawing of the graph, this is seen of it, and its crossings are as many as is said
+pub record IsDrawn (f : Front) (seen : Seen) : Type 0 where
+  pub is_seen : IsSeen f.graph f.drawing.orders f.drawing.next seen
+  pub count : f.upper ≡ seen.crossings
 
--- its rotation
-abbrev pub turns_of : Plain → ℕ → ℕ
-turns_of p = at (next_of p.turns)
+-- it is a drawing, but of another number of crossings than is said
+pub record Miscounts (f : Front) (said counted : ℕ) : Type 0 where
+  pub drawing : IsListedDrawing f.graph f.drawing.orders f.drawing.next
+  pub said_is : said ≡ f.upper
+  pub counted_is : counted ≡ crossing_count f.graph (order_of f.graph f.drawing.orders)
+  pub differ : said ≢ counted
 
--- the counts of its map
-abbrev pub counts_of : Plain → Euler
-counts_of p = euler_of (graph_of p) (turns_of p)
+-- what can be wrong at the line `drawn`
+abbrev pub DrawnFails : Front → FlawKind → Type 0
+DrawnFails f (Draw flaw) = IsFlaw f.graph f.drawing.orders f.drawing.next flaw
+DrawnFails f (Count said counted) = Miscounts f said counted
+DrawnFails f Syntax = ⊥
+DrawnFails f Number = ⊥
+DrawnFails f (Loop e) = ⊥
+DrawnFails f SizeDiffers = ⊥
+DrawnFails f (GraphDiffers e) = ⊥
+DrawnFails f (Row i flaw) = ⊥
+DrawnFails f (TreeShape n) = ⊥
+DrawnFails f (Weak bound need) = ⊥
+DrawnFails f Trailing = ⊥
 
--- the text is the spelling of a plain answer whose turns are a flat map, and these are the map's counts
-pub record IsPlainDrawing (text : List ℕ) (counts : Euler) : Type 0 where
-  pub plain : Plain
-  pub is_plain : IsPlain plain
-  pub text_is : text ≡ text_of plain
-  pub is_flat_map : IsFlatMap (graph_of plain) (turns_of plain)
-  pub counts_are : counts ≡ counts_of plain
+-- the lines after `drawn` keep their forms
+abbrev pub HasProof : Front → Left → Type 0
+HasProof f left = (proof : List row.Row × List Node) × (proof_at (length f.graph.ends) left ≡ Ok proof)
 
--- what can be wrong with the turns
-abbrev pub TurnsFail : Plain → FlawKind → Type 0
-TurnsFail p Unread = ⊥
-TurnsFail p Syntax = ⊥
-TurnsFail p Number = ⊥
-TurnsFail p (Loop e) = ⊥
-TurnsFail p SizeDiffers = ⊥
-TurnsFail p (GraphDiffers e) = ⊥
-TurnsFail p (Count said counted) = ⊥
-TurnsFail p (Row i flaw) = ⊥
-TurnsFail p (TreeShape n) = ⊥
-TurnsFail p (Weak bound need) = ⊥
-TurnsFail p Trailing = ⊥
-TurnsFail p (Draw Length) = ⊥
-TurnsFail p (Draw (Order e f)) = ⊥
-TurnsFail p (Draw (Dependent e f)) = ⊥
-TurnsFail p (Draw (Touch e f)) = ⊥
-TurnsFail p (Draw (Rotation d)) = IsRotationFlaw p.ends (turns_of p) d
-TurnsFail p (Draw (Genus counts)) = IsMap p.nodes p.ends (turns_of p) × (counts ≡ counts_of p) × ¬ (IsBalanced counts)
-
--- the turns are tested at the line `drawn`, and then the text after it is read
-abbrev pub AfterDrawn : Plain → List ℕ → Result Euler Flaw → Type 0
-AfterDrawn p rest (Ok counts) =
-    IsFlatMap (graph_of p) (turns_of p) × (counts ≡ counts_of p) × (tail_at (drawn_line p + 1) rest ≡ Ok tt)
-AfterDrawn p rest (Err flaw) =
-    ((flaw.line ≡ drawn_line p) × TurnsFail p flaw.kind)
-    ⊎ (IsFlatMap (graph_of p) (turns_of p) × (tail_at (drawn_line p + 1) rest ≡ Err flaw))
+-- the drawing is judged at the line `drawn`, and then the lines after it are read
+abbrev pub AfterDrawn : Front → Left → Result Seen Flaw → Type 0
+AfterDrawn f left (Ok seen) = IsDrawn f seen × HasProof f left
+AfterDrawn f left (Err flaw) =
+    ((flaw.line ≡ f.line) × DrawnFails f flaw.kind)
+    ⊎ (((seen : Seen) × IsDrawn f seen) × (proof_at (length f.graph.ends) left ≡ Err flaw))
 
 -- the lines up to `drawn` are read first
-abbrev pub AfterFront : Result (Plain × List ℕ) Flaw → Result Euler Flaw → Type 0
+abbrev pub AfterFront : Result (Front × Left) Flaw → Result Seen Flaw → Type 0
 AfterFront (Ok front) verdict = AfterDrawn front.0 front.1 verdict
 AfterFront (Err flaw) verdict = verdict ≡ Err flaw
 
--- the counts of the drawing, or the first line that fails and why
-abbrev pub Verdict : List ℕ → Result Euler Flaw → Type 0
-Verdict text verdict = AfterFront (front_at text) verdict
+-- what is seen of the drawing, or the first line that fails and why
+abbrev pub Verdict : List ℕ → Result Seen Flaw → Type 0
+Verdict text verdict = AfterFront (front_at (1, text)) verdict
 
 -- what a function returned is the verdict, unless memory ran out
-abbrev pub GivesVerdict : List ℕ → Result Euler AnswerErr → Type 0
-GivesVerdict text (Ok counts) = Verdict text (Ok counts)
+abbrev pub GivesVerdict : List ℕ → Result Seen AnswerErr → Type 0
+GivesVerdict text (Ok seen) = Verdict text (Ok seen)
 GivesVerdict text (Err (errors.Refused flaw)) = Verdict text (Err flaw)
 GivesVerdict text (Err errors.Memory) = Unit {0}
 
--- what a function returned is whether the turns are a drawing, tested at this line
-abbrev pub GivesDrawn : Plain → ℕ → Result Euler AnswerErr → Type 0
-GivesDrawn p line (Ok counts) = IsFlatMap (graph_of p) (turns_of p) × (counts ≡ counts_of p)
-GivesDrawn p line (Err (errors.Refused flaw)) = (flaw.line ≡ line) × TurnsFail p flaw.kind
-GivesDrawn p line (Err errors.Memory) = Unit {0}
+-- what a function returned is what is seen of the drawing, or what is wrong at the line `drawn`
+abbrev pub GivesDrawn : Front → Result Seen AnswerErr → Type 0
+GivesDrawn f (Ok seen) = IsDrawn f seen
+GivesDrawn f (Err (errors.Refused flaw)) = (flaw.line ≡ f.line) × DrawnFails f flaw.kind
+GivesDrawn f (Err errors.Memory) = Unit {0}
+
+-- the text is the one spelling of an answer whose drawing is one of its graph with its upper bound of crossings, and this is
+-- seen of the drawing
+pub record SpellsDrawing (text : List ℕ) (seen : Seen) : Type 0 where
+  pub answer : Answer
+  pub well_formed : WellFormed answer
+  pub text_is : text ≡ text_of answer
+  pub is_seen : IsSeen answer.graph answer.drawing.orders answer.drawing.next seen
+  pub count : answer.upper ≡ seen.crossings

@@ -1,54 +1,43 @@
-// What is said of the text of an answer.
+// What is said of the text of an answer, of which only the drawing is judged.
 ghost use Rattle.std.specs.Prelude.{◌≡◌};
-ghost use Rattle.xn_app.specs.Verdict.{GivesVerdict, GivesDrawn};
-ghost use Rattle.xn_proof.specs.Plain.{said, IsPlain};
+ghost use Rattle.xn_app.specs.Verdict.{GivesDrawn, GivesVerdict};
 
 use std::alloc::Global;
-use xn_graph::{Euler, Web};
-use xn_kinds::{DrawFlaw, Flaw, FlawKind};
-use xn_map::{Map, MapErr};
-use xn_proof::{AnswerErr, Front, read_front, read_tail};
+use xn_draw::{DrawErr, Seen, examine};
+use xn_kinds::{Flaw, FlawKind};
+use xn_proof::{AnswerErr, Front, Reader, front_lines, read_proof};
 
-/// The counts of the drawing that a plain answer has, or the first line that fails and why.
-pub fn examine(alloc: Global, text: &[u8]) -> Result<Euler, AnswerErr>
+/// What is seen of the drawing of an answer, or the first line that fails and why. The rows and the tree keep their forms;
+/// whether they prove anything isn't judged.
+pub fn examine_text(alloc: Global, text: &[u8]) -> Result<Seen, AnswerErr>
     ensures { GivesVerdict text.now result }
 {
-    let (front, rest) = read_front(alloc, text)?;
-    let drawn = 6 + 3 * front.ends.len() as u64;
-    let counts = counts_of_drawing(alloc, drawn, front)?;
-    read_tail(drawn + 1, rest)?;
-    Ok(counts)
+    let mut reader = Reader::new(text);
+    let front = front_lines(alloc, &mut reader)?;
+    let seen = examine_drawing(alloc, &front)?;
+    read_proof(alloc, front.graph.edges(), &mut reader)?;
+    Ok(seen)
 }
 
-// The counts of the drawing, or why the turns are none.
-fn counts_of_drawing(alloc: Global, drawn: u64, front: Front) -> Result<Euler, AnswerErr>
-    requires { IsPlain (said front) }
-    ensures { GivesDrawn (said front) drawn result }
+// What is seen of the drawing, or what is wrong at the line `drawn`.
+fn examine_drawing(alloc: Global, front: &Front) -> Result<Seen, AnswerErr>
+    ensures { GivesDrawn front.now result }
 {
-    let next = front.next(alloc)?;
-    let web = match Web::make(front.nodes, front.ends) {
-        Ok(web) => web,
-        Err(_) => unreachable!(),
+    let seen = match examine(alloc, &front.graph, &front.drawing) {
+        Ok(seen) => seen,
+        Err(DrawErr::Flaw(flaw)) => return Err(refused(front.line, FlawKind::Draw(flaw))),
+        Err(DrawErr::Memory) => return Err(AnswerErr::Memory),
     };
-    let map = match Map::make(alloc, web, &next) {
-        Ok(map) => map,
-        Err(MapErr::Length) => unreachable!(),
-        Err(MapErr::Rotation(dart)) => return Err(refused(drawn, DrawFlaw::Rotation(dart))),
-        Err(MapErr::Memory) => return Err(AnswerErr::Memory),
-    };
-    let counts = map.euler(alloc)?;
-    if counts.is_balanced() {
-        Ok(counts)
-    } else {
-        Err(refused(drawn, DrawFlaw::Genus(counts)))
+    let said = u64::from(front.upper);
+    let counted = seen.crossings;
+    if said != counted {
+        return Err(refused(front.line, FlawKind::Count { said, counted }));
     }
+    Ok(seen)
 }
 
-fn refused(line: u64, flaw: DrawFlaw) -> AnswerErr
-    ensures { result ≡ AnswerErr.Refused record { line = line; kind = FlawKind.Draw flaw } }
+fn refused(line: u64, kind: FlawKind) -> AnswerErr
+    ensures { result ≡ AnswerErr.Refused record { line = line; kind = kind } }
 {
-    AnswerErr::Refused(Flaw {
-        line,
-        kind: FlawKind::Draw(flaw),
-    })
+    AnswerErr::Refused(Flaw { line, kind })
 }

@@ -1,8 +1,8 @@
-//! What a verdict says, in the words of the answer.
-ghost use Rattle.xn_app.specs.Laws.{CountsAreOfDrawings, DrawingsAreTaken};
+// Laws of the verdict on the text of an answer.
+ghost use Rattle.xn_app.specs.Laws.{SeenWhereSpelled, DrawingsAreTaken};
 
-/// Exactly the plain answers whose turns are a drawing are taken.
+/// A drawing is seen exactly where the text is the one spelling of an answer with that drawing.
 pub fn verdict_laws()
-    ensures counts { CountsAreOfDrawings }
+    ensures seen { SeenWhereSpelled }
     ensures taken { DrawingsAreTaken }
 {}

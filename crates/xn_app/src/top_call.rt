@@ -7,7 +7,7 @@ ghost use Rattle.xn_app.specs.Command.{IsExamine, file_of};
 ghost use Rattle.xn_app.specs.Ends.{EndsWith, SaysDrawing, SaysFlaw, WroteFor};
 ghost use Rattle.xn_app.specs.Status.{IsBegun, IsJudged, IsSilent};
 
-use crate::examine::examine;
+use crate::examine::examine_text;
 use crate::output::seen_line;
 use crate::status::{Limit, Status};
 use std::alloc::{AllocError, Global};
@@ -66,8 +66,8 @@ pub fn top<I: Input, K: Sink>(alloc: Global, words: &[String], input: &mut I, ou
 fn judge(alloc: Global, text: &[u8]) -> Result<(Status, Vec<u8>), AllocError>
     ensures { IfOk result (λ x. EndsWith text.now x.0 x.1.items) }
 {
-    match examine(alloc, text) {
-        Ok(counts) => Ok((Status::Done, seen_line(alloc, &counts)?)),
+    match examine_text(alloc, text) {
+        Ok(seen) => Ok((Status::Done, seen_line(alloc, &seen)?)),
         Err(AnswerErr::Refused(flaw)) => Ok((Status::Refused(flaw), write_flaw(alloc, &flaw)?)),
         Err(AnswerErr::Memory) => Err(AllocError),
     }

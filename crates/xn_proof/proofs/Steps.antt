@@ -1,5 +1,5 @@
 -- Steps of reading that did not fail.
-use Rattle.std.proofs.Common.{◌≡◌, zero, suc, Bool, true, false, cond, List, ◌∷◌, Result, Ok, Err, refl, arith}
+use Rattle.std.proofs.Common.{◌≡◌, zero, suc, Bool, true, false, cond, List, [], ◌∷◌, ◌++◌, Result, Ok, Err, refl, arith}
 use Rattle.std.specs.List.{All}
 use Rattle.xn_kinds.specs.declared.flaws.Flaw.{Flaw}
 use Rattle.xn_proof.specs.Reading.{◌>>=◌}
@@ -34,3 +34,11 @@ all_first P x xs ps = ps 0 x (omega arith)
 
 pub all_rest : {X : Type 0} (P : X → Type 0) (x : X) (xs : List X) → All P (x ∷ xs) → All P xs
 all_rest P x xs ps k d low = ps (suc k) d (omega (arith, low))
+
+pub all_none : {X : Type 0} (P : X → Type 0) → All P []
+all_none P k d low = absurd (omega (arith, low))
+
+-- one element more at the end
+pub all_push : {X : Type 0} (P : X → Type 0) (xs : List X) (x : X) → All P xs → P x → All P (xs ++ x ∷ [])
+all_push P [] x ps p = all_cons P x [] p (all_none P)
+all_push P (y ∷ ys) x ps p = all_cons P y (ys ++ x ∷ []) (all_first P y ys ps) (all_push P ys x (all_rest P y ys ps) p)

@@ -3,7 +3,7 @@ use Rattle.std.proofs.Common.{◌≡◌, ℕ, suc, ◌+◌, ◌<◌, ◌≤◌, 
 use Rattle.std.proofs.lemmas.List.{append-nil}
 use Rattle.std.proofs.Math.Seq.{drop-cons}
 use Rattle.std.proofs.Math.ListN.{drop_of_length-le}
-use Rattle.xn_proof.specs.Plain.{next_of}
+use Rattle.xn_proof.specs.Fronts.{next_of}
 
 -- what is listed, and what the turns from i on still give
 abbrev pub listed_from : List ℕ → List (ℕ × ℕ) → ℕ → List ℕ

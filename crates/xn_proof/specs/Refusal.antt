@@ -8,7 +8,7 @@ use Rattle.xn_kinds.specs.declared.flaws.EvidenceFlaw.{EvidenceFlaw}
 use Rattle.xn_kinds.specs.declared.flaws.EvidenceFlaw.TheVariants.{Branch, Broken, Ends, Twice, Inner, List as Listed}
 use Rattle.xn_kinds.specs.declared.flaws.Flaw.{Flaw}
 use Rattle.xn_kinds.specs.declared.flaws.FlawKind.{FlawKind}
-use Rattle.xn_kinds.specs.declared.flaws.FlawKind.TheVariants.{Unread, Syntax, Number, Loop, SizeDiffers, GraphDiffers, Draw, Count, Row, TreeShape, Weak, Trailing}
+use Rattle.xn_kinds.specs.declared.flaws.FlawKind.TheVariants.{Syntax, Number, Loop, SizeDiffers, GraphDiffers, Draw, Count, Row, TreeShape, Weak, Trailing}
 use Rattle.xn_kinds.specs.declared.flaws.RowFlaw.{RowFlaw}
 use Rattle.xn_kinds.specs.declared.flaws.RowFlaw.TheVariants as row
 
@@ -55,7 +55,6 @@ row_words row.Extends = codes "extends"
 
 -- the words for the flaw of a line
 abbrev pub kind_words : FlawKind → List ℕ
-kind_words Unread = codes "unread"
 kind_words Syntax = codes "syntax"
 kind_words Number = codes "number"
 kind_words (Loop e) = one_word (codes "loop ") e

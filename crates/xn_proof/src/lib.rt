@@ -1,12 +1,20 @@
-//! The text of answers. So far plain answers: the answer to a graph that is drawn without crossings.
+//! The text of answers.
 #![tactic(auto)]
 
+mod answer;
+mod evidence;
 mod flaw;
+mod front;
+mod items;
 pub mod laws;
-mod lines;
-mod plain;
+mod ranges;
+mod reader;
 mod refusal;
+mod rows;
+mod tree;
 
+pub use answer::{read_answer, read_proof};
 pub use flaw::AnswerErr;
-pub use plain::{Front, read_front, read_tail};
+pub use front::{Front, front_lines, read_front};
+pub use reader::Reader;
 pub use refusal::write_flaw;

@@ -21,7 +21,6 @@ fn kind_words(alloc: Global, kind: &FlawKind) -> Result<String, AllocError>
     ensures { IfOk result (λ words. string_bytes words ≡ kind_words kind.now) }
 {
     match *kind {
-        FlawKind::Unread => format!(in alloc; "unread"),
         FlawKind::Syntax => format!(in alloc; "syntax"),
         FlawKind::Number => format!(in alloc; "number"),
         FlawKind::Loop(e) => format!(in alloc; "loop {e}"),

@@ -1,8 +1,8 @@
-use Rattle.xn_app.proofs.Verdicts.{counts_are_of_drawings, drawings_have_counts, drawings_are_taken}
+use Rattle.xn_app.proofs.Verdicts.{seen_are_spelled, spelled_are_seen, drawings_are_taken}
 use Rattle.xn_app.proofs.laws.verdict_laws.Goals as goal
 
-pub returns-clause-counts : goal.returns-clause-counts
-returns-clause-counts c = λ text counts. (counts_are_of_drawings text counts, drawings_have_counts text counts)
+pub returns-clause-seen : goal.returns-clause-seen
+returns-clause-seen c = λ text seen. (seen_are_spelled text seen, spelled_are_seen text seen)
 
 pub returns-clause-taken : goal.returns-clause-taken
 returns-clause-taken c = drawings_are_taken

@@ -1,0 +1,140 @@
+// The nodes of the proof tree.
+ghost use Rattle.std.specs.Prelude.{◌≡◌, length};
+ghost use Rattle.xn_text.specs.Pieces.{words_of};
+ghost use Rattle.xn_proof.specs.Proofs.{node_of, nodes_at};
+ghost use Rattle.xn_proof.specs.Ranges.{edges_form, is_half, leaf_form, parts_at};
+ghost use Rattle.xn_proof.specs.Reading.{Gives, Reads};
+
+use crate::flaw::{AnswerErr, syntax};
+use crate::ranges::{below, factor, no_number, small};
+use crate::reader::{Reader, has_key, keyed_numbers};
+use std::alloc::Global;
+use xn_kinds::Node;
+use xn_list::Sequence;
+
+// Two edges of so many.
+#[tactic(auto, unfolding(crate::specs::Ranges::edges_form))]
+fn two_edges(edges: u32, number: u64, values: &[Option<u64>]) -> Result<(u32, u32), AnswerErr>
+    ensures { Gives (λ x. x) result (edges_form edges number values.now) }
+{
+    match values {
+        [first, second] => {
+            let e = below(number, edges, *first)?;
+            let f = below(number, edges, *second)?;
+            Ok((e, f))
+        }
+        _ => Err(syntax(number)),
+    }
+}
+
+// Row numbers, each with its multiplier.
+fn parts(
+    alloc: Global,
+    rows: u32,
+    number: u64,
+    values: &[Option<u64>],
+) -> Result<Vec<(u32, u64)>, AnswerErr>
+    ensures { Gives (λ x. x.items) result (parts_at rows number values.now) }
+{
+    let mut parts = Vec::new(alloc);
+    let mut rest = values;
+    while let [row, multiplier, ..] = rest {
+        let row = below(number, rows, *row)?;
+        let multiplier = factor(number, *multiplier)?;
+        parts.push((row, multiplier))?;
+        rest = &rest[2..];
+    }
+    if rest.is_empty() {
+        Ok(parts)
+    } else {
+        Err(syntax(number))
+    }
+}
+
+// The divisor of a leaf, and its parts.
+#[tactic(auto, unfolding(crate::specs::Ranges::leaf_form))]
+fn leaf(
+    alloc: Global,
+    rows: u32,
+    number: u64,
+    values: &[Option<u64>],
+) -> Result<(u64, Vec<(u32, u64)>), AnswerErr>
+    ensures { Gives (λ x. (x.0, x.1.items)) result (leaf_form rows number values.now) }
+{
+    let Some((divisor, rest)) = values.split_first() else {
+        return Err(syntax(number));
+    };
+    let Some((count, rest)) = rest.split_first() else {
+        return Err(syntax(number));
+    };
+    if !is_half(*count, rest.len()) {
+        return Err(syntax(number));
+    }
+    small(number, u32::MAX, *count)?;
+    let divisor = factor(number, *divisor)?;
+    let parts = parts(alloc, rows, number, rest)?;
+    Ok((divisor, parts))
+}
+
+// Whether twice the number is this length.
+fn is_half(count: Option<u64>, length: usize) -> bool
+    ensures { result ≡ is_half count length }
+{
+    match count {
+        Some(n) => n == length as u64 / 2 && length % 2 == 0,
+        None => false,
+    }
+}
+
+// A node of the tree, or none at the line `end`.
+#[tactic(auto, unfolding(crate::specs::Proofs::node_of))]
+pub fn node(
+    alloc: Global,
+    edges: u32,
+    rows: u32,
+    number: u64,
+    line: &[u8],
+) -> Result<Option<Node>, AnswerErr>
+    ensures { Gives (λ x. x) result (node_of edges rows number (words_of line.now)) }
+{
+    if has_key(b"pair".as_slice(), line) {
+        let values = keyed_numbers(alloc, b"pair".as_slice(), number, line)?;
+        let (e, f) = two_edges(edges, number, &values)?;
+        return Ok(Some(Node::Pair(e, f)));
+    }
+    if has_key(b"place".as_slice(), line) {
+        let values = keyed_numbers(alloc, b"place".as_slice(), number, line)?;
+        let (e, f) = two_edges(edges, number, &values)?;
+        return Ok(Some(Node::Place(e, f)));
+    }
+    if has_key(b"leaf".as_slice(), line) {
+        let values = keyed_numbers(alloc, b"leaf".as_slice(), number, line)?;
+        let (d, parts) = leaf(alloc, rows, number, &values)?;
+        return Ok(Some(Node::Leaf {
+            d,
+            parts: Sequence::new(parts),
+        }));
+    }
+    let values = keyed_numbers(alloc, b"end".as_slice(), number, line)?;
+    no_number(number, &values)?;
+    Ok(None)
+}
+
+// The nodes up to the line `end`.
+pub fn nodes(
+    alloc: Global,
+    edges: u32,
+    rows: u32,
+    reader: &mut Reader,
+) -> Result<Vec<Node>, AnswerErr>
+    ensures { Reads (λ x. x.items) result reader.new (nodes_at edges rows (length reader.old.1) reader.old) }
+{
+    let mut nodes = Vec::new(alloc);
+    loop {
+        let (number, line) = reader.line()?;
+        match node(alloc, edges, rows, number, line)? {
+            Some(node) => nodes.push(node)?,
+            None => return Ok(nodes),
+        }
+    }
+}
