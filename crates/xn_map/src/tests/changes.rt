@@ -9,7 +9,7 @@ fn one_segment(rt: &impl Abort, alloc: Global) -> Result<Map, Fail> {
     let mut map = Map::make(alloc, web, &[])?;
     let joined = map.joined(alloc, 0, 1)?;
     assert!(rt; !joined);
-    map.add_edge(Corner::Lone(0), Corner::Lone(1))?;
+    assert_eq!(rt; map.add_edge(Corner::Lone(0), Corner::Lone(1))?, 0);
     Ok(map)
 }
 
