@@ -11,3 +11,6 @@ pub use deletion::delete_edge;
 pub use resolution::{Way, resolve};
 pub use smoothing::smooth;
 pub use splitting::split_node;
+
+#[cfg(test)]
+mod tests;

@@ -6,21 +6,19 @@ use Rattle.std.proofs.lemmas.Nat.Gcd.{same_from_IsGcd, IsGcd-from_zero, IsGcd-sw
 use Rattle.std.proofs.Math.Nat.{dvd-mod_iff, dvd-mul_left, dvd-mul_left_of_dvd, dvd-add_iff_right, one-dvd, mul-dvd-mul_right, dvd_of_mul-dvd-mul_right, div-mul_cancel, mod-lt, div-add-mod', eq_of_mul-eq-mul_right}
 
 -- g is a multiple of one number less a multiple of the other
-Bezout : ℕ → ℕ → ℕ → Type 0
+abbrev pub Bezout : ℕ → ℕ → ℕ → Type 0
 Bezout a b g = (x : ℕ) × (y : ℕ) × ((x * a ≡ y * b + g) ⊎ (x * b ≡ y * a + g))
 
 gcd_of_rest : (a b g : ℕ) → IsGcd a b g → IsGcd b (a % b) g
 gcd_of_rest a b g h = (h.1, (dvd-mod_iff g h.1).1 h.0, λ d in_b in_rest. h.2 d ((dvd-mod_iff d in_b).0 in_rest) in_b)
 
 bezout_step : (a b g : ℕ) → Bezout b (a % b) g → Bezout a b g
-unfolding Bezout
 bezout_step a b g (x, y, inl e) =
     (x + y * (a / b), y, inr (omega (arith, e, ap (λ t. y * t) (div-add-mod' a b))))
 bezout_step a b g (x, y, inr e) =
     (x, y + x * (a / b), inl (omega (arith, e, ap (λ t. x * t) (div-add-mod' a b))))
 
-bezout : (n a b : ℕ) → b ≤ n → (g : ℕ) → IsGcd a b g → Bezout a b g
-unfolding Bezout
+pub bezout : (n a b : ℕ) → b ≤ n → (g : ℕ) → IsGcd a b g → Bezout a b g
 bezout zero a b h g is =
     let zero_b : b ≡ 0 = omega arith in
     let same : g ≡ a = same_from_IsGcd a b g a is (IsGcd-from_zero a b zero_b) in
@@ -33,7 +31,6 @@ bezout (suc n) a b h g is =
 
 -- a divisor of a product that is coprime to one factor divides the other
 pub dvd_other : (d a b : ℕ) → IsGcd d a 1 → d ∣ a * b → d ∣ b
-unfolding Bezout
 dvd_other d a b one divides = other (bezout a d a (omega arith) 1 one)
   where
     other : Bezout d a 1 → d ∣ b

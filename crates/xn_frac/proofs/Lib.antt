@@ -1,5 +1,6 @@
 pub mod Naturals
 pub mod Coprime
+pub mod Halving
 pub mod Gaps
 pub mod Signs
 pub mod Lowest
@@ -8,3 +9,4 @@ pub mod Sums
 pub mod Products
 pub mod Wholes
 pub mod RatioLaws
+pub mod ShortSums

@@ -1,10 +1,10 @@
 -- The laws of ratios.
-use Rattle.std.proofs.Common.{◌≡◌, ◌≢◌, ◌⊎◌, inl, inr, ℕ, zero, suc, ◌+◌, ◌*◌, ◌<◌, ◌≤◌, Bool, true, false, arith, ap, sym, refl, ◌∙◌, subst}
+use Rattle.std.proofs.Common.{◌≡◌, ◌≢◌, ◌⊎◌, inl, inr, ℕ, suc, ◌*◌, arith, ap, sym, ◌∙◌, subst}
 use Rattle.std.specs.Prelude.{ℤ, pos, negsuc, ◌+ℤ◌, ◌*ℤ◌, ◌≤ℤ◌, neg_ℤ, unsigned_abs}
 use Rattle.std.specs.Int.{is_negative}
 use Rattle.std.proofs.lemmas.Int.{ints, by_lt_z}
 use Rattle.std.proofs.lemmas.Bool.{le-ltb}
-use Rattle.xn_frac.specs.Ratio.{Ratio, plus, times, over, inverse_of, signed, Same, IsBelow, IsAtMost, IsFrac}
+use Rattle.xn_frac.specs.Ratio.{Ratio, plus, times, over, signed, Same, IsBelow, IsAtMost, IsFrac}
 use Rattle.xn_frac.proofs.Gaps.{gaps, gap-same, by_gap, by_gap2, by_gap3}
 use Rattle.xn_frac.proofs.Ratios.{one_form, cancel, le_times}
 

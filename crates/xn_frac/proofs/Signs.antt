@@ -1,7 +1,7 @@
 -- Whole numbers by sign and size.
 use Rattle.std.proofs.Common.{◌≡◌, ℕ, zero, suc, ◌*◌, ◌<◌, ◌^◌, subst, Bool, true, false, arith, ap, sym, refl, ◌∙◌}
 use Rattle.std.specs.Prelude.{unsigned_abs}
-use Rattle.std.specs.Int.{is_negative, w128}
+use Rattle.std.specs.Int.{is_negative, w64, w128}
 use Rattle.std.proofs.Math.IntN.{ℤ, pos, negsuc, ◌*ℤ◌, ◌-ℤ◌, neg_ℤ, +ℤ_idl}
 use Rattle.std.proofs.lemmas.Int.{ints, to_z-of_z}
 use Rattle.std.specs.Int.RustNames.{FitsSigned}
@@ -54,6 +54,10 @@ product-signed a c =
 -- a number in range that went to bits and is read again
 pub back : (z : ℤ) → IsInRange z → to_z w128 (of_z w128 z) ≡ z
 back z small = let fits : FitsSigned w128 z = fits_from_range z small in to_z-of_z w128 z fits
+
+-- the same of 64 bits
+pub back_short : (z : ℤ) → unsigned_abs z < 2 ^ 63 → to_z w64 (of_z w64 z) ≡ z
+back_short z small = let fits : FitsSigned w64 z = omega (arith, ints) in to_z-of_z w64 z fits
 
 pub abs-neg : (z : ℤ) → unsigned_abs (neg_ℤ z) ≡ unsigned_abs z
 abs-neg (pos zero) = refl

@@ -1,11 +1,9 @@
 -- Whole numbers as fractions.
-use Rattle.std.proofs.Common.{◌≡◌, ◌≢◌, ℕ, zero, suc, ◌+◌, ◌*◌, ◌/◌, ◌<◌, ◌≤◌, ◌^◌, arith, ap, sym, refl, ◌∙◌, subst, inl, inr}
-use Rattle.std.specs.Prelude.{ℤ, pos, negsuc, ◌+ℤ◌, ◌*ℤ◌, unsigned_abs, neg_ℤ, ◌<ℤ◌}
-use Rattle.std.specs.Int.{IsGcd, ◌∣◌, w128}
-use Rattle.std.proofs.lemmas.Int.{ints}
+use Rattle.std.proofs.Common.{◌≡◌, ℕ, ◌*◌, ◌/◌, ◌<◌, ◌^◌, arith, ap, ◌∙◌, subst, inl, inr}
+use Rattle.std.specs.Prelude.{ℤ, pos, ◌+ℤ◌, ◌*ℤ◌, unsigned_abs}
+use Rattle.std.specs.Int.{IsGcd, ◌∣◌}
 use Rattle.std.proofs.Math.Nat.{one-dvd, dvd_refl, eq-one_of_dvd-one}
-use mir.Val.{to_z, of_z}
-use Rattle.xn_frac.specs.Ratio.{Ratio, whole, plus, times, IsFrac, IsFracOf, IsInRange, CanAdd, CanMul, IsRefused}
+use Rattle.xn_frac.specs.Ratio.{whole, times, IsFrac, IsInRange, CanAdd, CanMul, IsRefused}
 use Rattle.xn_frac.proofs.Gaps.{gaps, gap-same, by_gap}
 use Rattle.xn_frac.proofs.Ratios.{one_form}
 

@@ -1,4 +1,4 @@
-use Rattle.std.specs.Prelude.{◌≡◌, ◌≢◌, ◌⊎◌, ℕ, ◌<◌, pos}
+use Rattle.std.specs.Prelude.{◌≡◌, ◌≢◌, ◌⊎◌, ◌<◌, pos}
 use Rattle.xn_frac.specs.Ratio.{Ratio, plus, times, over, Same, IsBelow, IsAtMost, IsFrac}
 
 -- two lowest forms of one number are equal

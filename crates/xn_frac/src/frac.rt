@@ -2,8 +2,9 @@
 ghost use Rattle.std.specs.Prelude.{◌≡◌, ◌≢◌, ◌^◌, OnOk, OnSome, IfNone, IfSome, ◌<◌, ◌↔◌, ℤ, pos, neg_ℤ, ◌<ℤ◌, IsTrue, IfOk, IfErr, MatchOption, unsigned_abs};
 ghost use Rattle.std.specs.Int.{IsGcd};
 ghost use Rattle.xn_frac.specs.Ratio.{whole, ratio_of, plus, minus_of, minus, times, over, IsBelow, IsFrac, IsFracOf, SumFits, CanAdd, CanSub, CanMul, CanDiv, IsRefused, inverse_of, sum_num, sum_den};
+ghost use Rattle.xn_frac.specs.Small.{IsShort};
 
-use crate::whole;
+use crate::{short, whole};
 use std::marker::Model;
 
 /// A fraction in lowest terms, with a denominator above 0 and both numbers between -2^127 and 2^127.
@@ -76,6 +77,9 @@ impl Frac {
         ensures fits { OnOk result (CanAdd self other) }
         ensures err { IfErr result (λ w. (¬ CanAdd self other) × (w.a ≡ self) × (w.b ≡ other)) }
     {
+        if self.is_short() && other.is_short() {
+            return Ok(short_sum(self, other));
+        }
         let common = whole::gcd(self.den, other.den);
         match sum_over(self, other, common) {
             Some((num, den)) => Ok(lowest(num, den)),
@@ -136,6 +140,13 @@ impl Frac {
         }
     }
 
+    // Whether both numbers are below 2^31.
+    fn is_short(self) -> bool
+        ensures { IsTrue result → IsShort self }
+    {
+        self.num.unsigned_abs() < 1 << 31 && self.den < 1 << 31
+    }
+
     // The number with the other sign.
     fn negated(self) -> Frac
         ensures { result ≡ minus_of self }
@@ -155,6 +166,43 @@ impl Frac {
             num: whole::with_sign(self.num < 0, self.den),
             den: self.num.unsigned_abs(),
         }
+    }
+}
+
+// The sum of two numbers below 2^31, for which 64 bits are enough.
+fn short_sum(left: Frac, right: Frac) -> Frac
+    requires left { IsShort left }
+    requires right { IsShort right }
+    ensures fits { CanAdd left right }
+    ensures value { IsFracOf (plus left right) result }
+{
+    let (num, den) = short::sum(
+        left.num as i64,
+        left.den as u64,
+        right.num as i64,
+        right.den as u64,
+    );
+    Frac {
+        num: i128::from(num),
+        den: u128::from(den),
+    }
+}
+
+// Their product.
+fn short_product(left: Frac, right: Frac) -> Frac
+    requires left { IsShort left }
+    requires right { IsShort right }
+    ensures { IsFracOf (times left right) result }
+{
+    let (num, den) = short::product(
+        left.num as i64,
+        left.den as u64,
+        right.num as i64,
+        right.den as u64,
+    );
+    Frac {
+        num: i128::from(num),
+        den: u128::from(den),
     }
 }
 
@@ -178,6 +226,9 @@ fn product_of(left: Frac, right: Frac) -> Option<Frac>
     ensures none { IfNone result (¬ CanMul left right) }
     ensures some { IfSome result (IsFracOf (times left right)) }
 {
+    if left.is_short() && right.is_short() {
+        return Some(short_product(left, right));
+    }
     let (left_size, right_size) = (left.num.unsigned_abs(), right.num.unsigned_abs());
     let first = whole::gcd(left_size, right.den);
     let second = whole::gcd(right_size, left.den);

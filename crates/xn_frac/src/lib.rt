@@ -3,6 +3,7 @@
 
 mod frac;
 pub mod laws;
+mod short;
 #[cfg(test)]
 mod tests;
 pub mod whole;

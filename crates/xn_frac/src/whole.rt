@@ -1,8 +1,9 @@
 //! Whole numbers for fractions. Where both numbers are below 2^64 a division is one of 64 bits.
-ghost use Rattle.std.specs.Prelude.{◌≡◌, ◌+◌, ◌*◌, ◌/◌, ◌^◌, ◌<◌, ◌↔◌, ℤ, pos, ◌+ℤ◌, ◌*ℤ◌, IsTrue};
+ghost use Rattle.std.specs.Prelude.{◌≡◌, ◌≢◌, ℕ, ◌+◌, ◌*◌, ◌/◌, ◌%◌, ◌^◌, ◌<◌, ◌↔◌, ℤ, pos, ◌+ℤ◌, ◌*ℤ◌, IsTrue};
 ghost use Rattle.std.specs.Int.{IsGcd};
 ghost use Rattle.std.specs.Option.{SomeIff};
 ghost use Rattle.xn_frac.specs.Ratio.{IsInRange, signed};
+ghost use Rattle.xn_frac.specs.Small.{AreOdd};
 
 /// The greatest common divisor, by Euclid's algorithm.
 pub fn gcd(a: u128, b: u128) -> u128
@@ -21,18 +22,74 @@ pub fn gcd(a: u128, b: u128) -> u128
     x
 }
 
-// The same of two numbers of 64 bits.
-fn short_gcd(a: u64, b: u64) -> u64
+/// The same of two numbers of 64 bits, by halving and differences (Stein 1967).
+pub fn short_gcd(a: u64, b: u64) -> u64
     ensures { IsGcd a b result }
 {
-    let mut x = a;
-    let mut y = b;
-    while y != 0 {
-        let rest = x % y;
-        x = y;
-        y = rest;
+    if a == 0 {
+        return b;
+    }
+    if b == 0 {
+        return a;
+    }
+    if a == 1 || b == 1 {
+        return 1;
+    }
+    let (m, n) = (a.trailing_zeros(), b.trailing_zeros());
+    odd_gcd(a >> m, b >> n) << m.min(n)
+}
+
+/// The greatest common divisors of a and b and of c and d, side by side, since a processor takes steps of both at once.
+pub fn short_gcds(a: u64, b: u64, c: u64, d: u64) -> (u64, u64)
+    ensures first { IsGcd a b result.0 }
+    ensures second { IsGcd c d result.1 }
+{
+    if a <= 1 || b <= 1 || c <= 1 || d <= 1 {
+        return (short_gcd(a, b), short_gcd(c, d));
+    }
+    let (i, j) = (a.trailing_zeros(), b.trailing_zeros());
+    let (k, l) = (c.trailing_zeros(), d.trailing_zeros());
+    let (first, second) = odd_gcds(a >> i, b >> j, c >> k, d >> l);
+    (first << i.min(j), second << k.min(l))
+}
+
+// The same of odd numbers.
+fn odd_gcds(a: u64, b: u64, c: u64, d: u64) -> (u64, u64)
+    requires first { AreOdd a b }
+    requires second { AreOdd c d }
+    ensures first { IsGcd a b result.0 }
+    ensures second { IsGcd c d result.1 }
+{
+    let (mut x, mut y, mut z, mut w) = (a, b, c, d);
+    while x != y && z != w {
+        (x, y) = odd_step(x, y);
+        (z, w) = odd_step(z, w);
+    }
+    (odd_gcd(x, y), odd_gcd(z, w))
+}
+
+// The greatest common divisor of two odd numbers.
+fn odd_gcd(a: u64, b: u64) -> u64
+    requires { AreOdd a b }
+    ensures { IsGcd a b result }
+{
+    let (mut x, mut y) = (a, b);
+    while x != y {
+        (x, y) = odd_step(x, y);
     }
     x
+}
+
+// The lesser of two odd numbers, and their difference without its factors 2.
+fn odd_step(x: u64, y: u64) -> (u64, u64)
+    requires odd { AreOdd x y }
+    requires differ { x ≢ y }
+    ensures odd { AreOdd result.0 result.1 }
+    ensures less { result.0 + result.1 < x + y }
+    ensures same { (g : ℕ) → IsGcd result.0 result.1 g → IsGcd x y g }
+{
+    let gap = x.abs_diff(y);
+    (x.min(y), gap >> gap.trailing_zeros())
 }
 
 /// The whole part of a / b.
@@ -87,12 +144,16 @@ pub fn scaled(n: i128, k: u128) -> Option<i128>
     Some(with_sign(n < 0, size))
 }
 
-/// Whether a / b is below c / d. Where the whole parts agree, the parts that are left are compared, each turned over.
+/// Whether a / b is below c / d. Short numbers are compared by two products; of others the whole parts are compared and,
+/// where these agree, the parts that are left, each turned over.
 pub fn is_below(a: u128, b: u128, c: u128, d: u128) -> bool
     requires left { 0 < b }
     requires right { 0 < d }
     ensures { IsTrue result ↔ (a * d < c * b) }
 {
+    if a < 1 << 63 && b < 1 << 63 && c < 1 << 63 && d < 1 << 63 {
+        return a * d < c * b;
+    }
     let (mut p, mut q, mut r, mut s) = (a, b, c, d);
     loop {
         let (left, right) = (p / q, r / s);

@@ -53,8 +53,6 @@ pub enum RowFlaw {
 /// What is wrong with a line of an answer: of what is wrong with it, the first in this order.
 #[derive(Clone, Copy, Debug, PartialEq, Eq)]
 pub enum FlawKind {
-    /// The line isn't of the form that stands there.
-    Unread,
     /// The line isn't of a form that may stand there, or it isn't ended, or it is missing.
     Syntax,
     /// A number is outside its range.

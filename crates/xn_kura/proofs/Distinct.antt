@@ -30,7 +30,7 @@ has-at [] i below = absurd (omega arith)
 has-at (x ∷ xs) zero below = or_left (eqb x x) _ (eq-eqb x x refl)
 has-at (x ∷ xs) (suc i) below = or_right (eqb x (slice_index xs i)) (has xs (slice_index xs i)) (has-at xs i (omega arith))
 
-all_not : (x : ℕ) (xs : List ℕ) → AllByRecursion (λ y. eqb x y ≡ false) xs → (y : ℕ) → has xs y ≡ true → x ≢ y
+pub all_not : (x : ℕ) (xs : List ℕ) → AllByRecursion (λ y. eqb x y ≡ false) xs → (y : ℕ) → has xs y ≡ true → x ≢ y
 all_not x [] all y h same = both_ways false refl h
 all_not x (z ∷ zs) all y h same = elim (or_cases (eqb z y) (has zs y) h) [
   | inl here ↦ eqb-false x z all.0 (same ∙ sym (eqb-true z y here))

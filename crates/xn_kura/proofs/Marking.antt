@@ -9,7 +9,7 @@ use Rattle.xn_kura.proofs.Distinct.{has-left}
 use Rattle.xn_kura.specs.Flaws.{IsFirstRepeat}
 use Rattle.xn_kura.specs.Marks.{Clears, MarksExactly, MarksMore, MarksWithin, StopsAt, is_marked}
 
-distinct-push : (xs : List ℕ) (x : ℕ) → IsDistinct eqb xs → has xs x ≡ false → IsDistinct eqb (xs ++ x ∷ [])
+pub distinct-push : (xs : List ℕ) (x : ℕ) → IsDistinct eqb xs → has xs x ≡ false → IsDistinct eqb (xs ++ x ∷ [])
 unfolding IsDistinct
 distinct-push [] x d out = (tt, tt)
 distinct-push (y ∷ xs) x d out =

@@ -29,7 +29,7 @@ all_below_at (suc n) p t k k_in =
     let parts : (all_below n p ≡ true) × (p n ≡ true) = and_parts _ _ t in
     elim (cases_eq k n) [ inl last ↦ ap p last ∙ parts.1 | inr before ↦ all_below_at n p parts.0 k (omega arith) ]
 
-all_below_from : (n : ℕ) (p : ℕ → Bool) → ((k : ℕ) → k < n → p k ≡ true) → all_below n p ≡ true
+pub all_below_from : (n : ℕ) (p : ℕ → Bool) → ((k : ℕ) → k < n → p k ≡ true) → all_below n p ≡ true
 all_below_from zero p each = refl
 all_below_from (suc n) p each = and_from _ _ (all_below_from n p (λ k k_in. each k (omega arith))) (each n (omega arith))
 

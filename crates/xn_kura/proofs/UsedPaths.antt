@@ -35,7 +35,7 @@ module _ (ends : List (ℕ × ℕ)) (branch : List ℕ) where
   abbrev b : ℕ → ℕ
   b i = slice_index branch i
 
-  pub all_darts : List (ℕ × ℕ) → List (List ℕ) → List ℕ
+  unfoldable pub all_darts : List (ℕ × ℕ) → List (List ℕ) → List ℕ
   all_darts [] paths = []
   all_darts (p ∷ pairs) [] = []
   all_darts (p ∷ pairs) (path ∷ paths) = darts ends (b p.0) path ++ all_darts pairs paths

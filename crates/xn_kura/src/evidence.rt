@@ -12,7 +12,7 @@ use xn_graph::Web;
 use xn_kinds::{Evidence, EvidenceFlaw, Paths};
 
 /// The pairs of branch nodes that the paths of a Five join.
-const FIVE_PAIRS: [(usize, usize); 10] = [
+pub const FIVE_PAIRS: [(usize, usize); 10] = [
     (0, 1),
     (0, 2),
     (0, 3),
@@ -26,7 +26,7 @@ const FIVE_PAIRS: [(usize, usize); 10] = [
 ];
 
 /// The pairs of branch nodes that the paths of a ThreeThree join.
-const THREE_PAIRS: [(usize, usize); 9] = [
+pub const THREE_PAIRS: [(usize, usize); 9] = [
     (0, 3),
     (0, 4),
     (0, 5),

@@ -2,12 +2,16 @@
 #![tactic(auto)]
 
 mod evidence;
+mod kinds;
 pub mod laws;
 mod marks;
 mod repeats;
+mod stubs;
 #[cfg(test)]
 mod tests;
+mod traces;
 mod walks;
 
 pub use evidence::holds;
+pub use kinds::find_kind;
 pub use marks::Marks;

@@ -19,6 +19,8 @@ const K5: [(u32, u32); 10] = [
     (3, 4),
 ];
 
+const K4: [(u32, u32); 6] = [(0, 1), (0, 2), (0, 3), (1, 2), (1, 3), (2, 3)];
+
 const K33: [(u32, u32); 9] = [
     (0, 3),
     (0, 4),
@@ -126,5 +128,63 @@ fn branch_nodes(rt: HostRuntime) -> Result<(), Fail> {
         let evidence = Evidence::ThreeThree { branch, paths };
         assert!(rt; holds(&web, &evidence, &mut marks) == wanted);
     }
+    Ok(())
+}
+
+/// The kind of the evidence that uses the whole web, if there is one that does.
+fn kind_of(
+    alloc: Global,
+    nodes: u32,
+    ends: &[(u32, u32)],
+    more: &[(u32, u32)],
+) -> Result<&'static str, AllocError> {
+    let Ok(web) = web_with(alloc, nodes, ends, more)? else {
+        return Ok("no web");
+    };
+    match find_kind(alloc, &web)? {
+        Some(Evidence::Five { .. }) => Ok("five"),
+        Some(Evidence::ThreeThree { .. }) => Ok("three against three"),
+        _ => Ok("none"),
+    }
+}
+
+#[test]
+fn kinds(rt: HostRuntime) -> Result<(), Fail> {
+    let alloc = rt.alloc();
+    assert!(rt; kind_of(alloc, 5, &K5, &[])? == "five");
+    assert!(rt; kind_of(alloc, 4, &K4, &[])? == "none");
+    assert!(rt; kind_of(alloc, 6, &K33, &[])? == "three against three");
+    assert!(rt; kind_of(alloc, 7, &K5[1..], &[(5, 0), (5, 1)])? == "five");
+    assert!(rt; kind_of(alloc, 5, &K5, &[(0, 1)])? == "none");
+    assert!(rt; kind_of(alloc, 6, &K5, &[(5, 5)])? == "none");
+    Ok(())
+}
+
+/// Whether this is the Five of these branch nodes in which path number s is segment s alone.
+fn is_plain_five(found: &Option<Evidence>, wanted: [u32; 5]) -> bool {
+    match found {
+        Some(Evidence::Five { branch, paths }) => {
+            *branch == wanted && (0..paths.len()).all(|s| is_alone(paths.at(s), s))
+        }
+        _ => false,
+    }
+}
+
+/// Whether this number stands alone in the list.
+fn is_alone(list: &[u32], number: usize) -> bool {
+    list.len() == 1 && list[0] as usize == number
+}
+
+#[test]
+fn the_five_of_k5(rt: HostRuntime) -> Result<(), Fail> {
+    let web = web_with(rt.alloc(), 5, &K5, &[])?.expect(&rt, "a web");
+    let mut marks = Marks::new(rt.alloc(), &web)?;
+    let plain = Evidence::Five {
+        branch: [0, 1, 2, 3, 4],
+        paths: paths_but(rt.alloc(), 10, &[])?,
+    };
+    assert!(rt; holds(&web, &plain, &mut marks) == Ok(()));
+    let found = find_kind(rt.alloc(), &web)?;
+    assert!(rt; is_plain_five(&found, [0, 1, 2, 3, 4]));
     Ok(())
 }

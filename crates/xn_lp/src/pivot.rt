@@ -69,7 +69,7 @@ pub fn best_entering(
         }
         let choice = Choice {
             entering: Entering { place, slope },
-            ratio: size(entry(table.prices.as_slice(), place).div(slope)?)?,
+            ratio: ratio_of(entry(table.prices.as_slice(), place), slope)?,
             variable: nonbasic.variable,
         };
         if best.is_none_or(|other| is_better(choice, other)) {
@@ -84,6 +84,16 @@ fn brings_back(nonbasic: Nonbasic, slope: Frac, is_above: bool) -> bool
     ensures { IsTrue result → slope.num ≢ pos 0 }
 {
     slope.num() != 0 && (slope.num() > 0) != (nonbasic.at_upper != is_above)
+}
+
+// The size of the price for each unit of the leaving variable.
+fn ratio_of(price: Frac, slope: Frac) -> Result<Frac, Wide>
+    requires { slope.num ≢ pos 0 }
+{
+    if is_zero(price) {
+        return Ok(zero());
+    }
+    size(price.div(slope)?)
 }
 
 // The absolute value.
@@ -116,7 +126,9 @@ pub fn pivot(table: &mut Table, leaving: Leaving, entering: Entering) -> Result<
     for basic in table.basics.iter_mut() {
         let factor = take_entry(basic.line.as_mut_slice(), entering.place);
         if !is_zero(factor) {
-            basic.value = basic.value.add(factor.mul(step)?)?;
+            if !is_zero(step) {
+                basic.value = basic.value.add(factor.mul(step)?)?;
+            }
             add_times(basic.line.as_mut_slice(), factor, line.as_slice())?;
         }
     }

@@ -114,7 +114,7 @@ fn surplus(row: &LpRow, point: &[Frac]) -> Result<Frac, Wide> {
     let mut sum = zero().sub(whole(row.least))?;
     for (column, coefficient) in row.terms.as_slice() {
         let value = point.get(*column as usize).copied().unwrap_or(zero());
-        if !is_zero(value) {
+        if !is_zero(value) && *coefficient != 0 {
             sum = sum.add(value.mul(whole(*coefficient))?)?;
         }
     }

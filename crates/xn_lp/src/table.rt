@@ -180,8 +180,11 @@ pub fn put(values: &mut [Frac], place: usize, value: Frac)
     }
 }
 
-/// Adds the factor times the other line.
+/// Adds the factor times the other line. Nothing that is 0 is multiplied.
 pub fn add_times(line: &mut [Frac], factor: Frac, other: &[Frac]) -> Result<(), Wide> {
+    if is_zero(factor) {
+        return Ok(());
+    }
     for (entry, term) in line.iter_mut().zip(other) {
         if !is_zero(*term) {
             *entry = entry.add(factor.mul(*term)?)?;

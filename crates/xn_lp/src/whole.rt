@@ -92,10 +92,13 @@ impl Whole {
     }
 }
 
-// The product, if it is in range.
+// The product, if it is in range. Nothing that is 0 is multiplied.
 fn product(m: i128, n: i128) -> Option<i128>
     requires { IsInRange m }
     ensures { SomeIff result (IsInRange (m *ℤ n)) (m *ℤ n) }
 {
+    if m == 0 || n == 0 {
+        return Some(0);
+    }
     whole::scaled(if n < 0 { -m } else { m }, n.unsigned_abs())
 }

@@ -13,3 +13,6 @@ mod rotation;
 
 pub use corners::Corner;
 pub use maps::{Map, MapErr};
+
+#[cfg(test)]
+mod tests;

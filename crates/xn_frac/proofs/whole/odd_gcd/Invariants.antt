@@ -1,0 +1,10 @@
+use Rattle.std.proofs.Common.{◌+◌, ℕ}
+use Rattle.std.specs.Int.{IsGcd}
+use Rattle.xn_frac.specs.Small.{AreOdd}
+use Rattle.xn_frac.proofs.whole.odd_gcd.Given as goal
+
+abbrev pub invariant-loop-x : goal.invariant-loop-x
+invariant-loop-x l = AreOdd l.x l.y × ((g : ℕ) → IsGcd l.x l.y g → IsGcd l.fn.a l.fn.b g)
+
+abbrev pub decreases-loop-x : goal.decreases-loop-x
+decreases-loop-x l = l.x + l.y

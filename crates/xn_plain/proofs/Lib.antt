@@ -1,0 +1,11 @@
+pub mod AtMost
+pub mod Doubled
+pub mod Drawn
+pub mod Growing
+pub mod Least
+pub mod OrdersAt
+pub mod SameTurns
+pub mod Sums
+pub mod Tries
+pub mod Unknown
+pub mod Walks

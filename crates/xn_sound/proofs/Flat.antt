@@ -1,0 +1,341 @@
+-- Webs that have a flat map: some of their segments do, and so do they with a node of two darts passed over.
+use Rattle.std.proofs.Common.{◌≡◌, ◌≢◌, ℕ, suc, ◌+◌, ◌-◌, ◌*◌, ◌/◌, ◌%◌, ◌<◌, ◌≤◌, ◌⊎◌, inl, inr, true, cond, eqb, ltb, List, [], ◌∷◌, ◌++◌, length, refl, sym, ◌∙◌, ap, ap₂, arith, length-append}
+use Rattle.std.proofs.lemmas.Bool.{cases_eq, cases_lt, cond-true, cond-false, eq-eqb, ne_eqb, lt-ltb, le-ltb}
+use Rattle.std.proofs.lemmas.List.{get_or_append_left, get_or_at}
+use Rattle.xn_model.specs.Graph.{ends_at}
+use Rattle.xn_model.specs.Map.{IsFlat, IsMap, face_step, is_lone, reverse_of, tail_of}
+use Rattle.xn_model.specs.Permutation.{Reaches}
+use Rattle.xn_model.proofs.Darts.{cases_dart, reverse-even, reverse-odd, tail-even, tail-odd}
+use Rattle.xn_ring.proofs.Orbits.{source_of}
+use Rattle.xn_genus.specs.Part.{IsPart}
+use Rattle.xn_genus.proofs.Compress.{half_reverse}
+use Rattle.xn_genus.proofs.Counts.{stays_alone}
+use Rattle.xn_genus.proofs.Lone.{no_dart_if_lone}
+use Rattle.xn_genus.proofs.Part.{flat_of_part, map_of_part, passes_over}
+use Rattle.xn_surgery.specs.Corners.{Corner, after, node_of, stand_at}
+use Rattle.xn_surgery.specs.Insertion.{IsInsertion}
+use Rattle.xn_surgery.proofs.Insert.{map_more}
+use Rattle.xn_surgery.proofs.InsertFlat.{insertion_flat}
+
+pub record HasFlat (nodes : ℕ) (ends : List (ℕ × ℕ)) : Type 0 where
+  pub next : ℕ → ℕ
+  pub is_map : IsMap nodes ends next
+  pub flat : IsFlat nodes ends next
+
+-- ---- some segments of a web
+
+-- segment i of the part is segment σ i of the web
+pub record IsPicked (ends part : List (ℕ × ℕ)) (σ : ℕ → ℕ) : Type 0 where
+  pub below : (i : ℕ) → i < length part → σ i < length ends
+  pub apart : (i j : ℕ) → i < length part → j < length part → σ i ≡ σ j → i ≡ j
+  pub same : (i : ℕ) → i < length part → ends_at part i ≡ ends_at ends (σ i)
+
+module _ (ends part : List (ℕ × ℕ)) (σ : ℕ → ℕ) (picks : IsPicked ends part σ) where
+  abbrev dart : ℕ → ℕ
+  dart j = 2 * σ (j / 2) + j % 2
+
+  dart_reverse : (j : ℕ) → dart (reverse_of j) ≡ reverse_of (dart j)
+  dart_reverse j =
+      let c = cases_dart j in
+      let half = ap σ (half_reverse j) in
+      let t = σ (j / 2) in
+      elim c.1 [
+        | inl even ↦
+            let r : reverse_of j ≡ 2 * c.0 + 1 = ap reverse_of even ∙ reverse-even c.0 in
+            let here : dart j ≡ 2 * t = omega (arith, even) in
+            let there : dart (reverse_of j) ≡ 2 * t + 1 = omega (arith, r, half) in
+            there ∙ sym (reverse-even t) ∙ ap reverse_of (sym here)
+        | inr odd ↦
+            let r : reverse_of j ≡ 2 * c.0 = ap reverse_of odd ∙ reverse-odd c.0 in
+            let here : dart j ≡ 2 * t + 1 = omega (arith, odd) in
+            let there : dart (reverse_of j) ≡ 2 * t = omega (arith, r, half) in
+            there ∙ sym (reverse-odd t) ∙ ap reverse_of (sym here)
+      ]
+
+  dart_tail : (j : ℕ) → j < 2 * length part → tail_of part j ≡ tail_of ends (dart j)
+  dart_tail j j_in =
+      let c = cases_dart j in
+      let s_in : c.0 < length part = omega (arith, c.1) in
+      let t = σ c.0 in
+      elim c.1 [
+        | inl even ↦
+            let half : j / 2 ≡ c.0 = omega (arith, even) in
+            let there : dart j ≡ 2 * t = omega (arith, ap σ half, even) in
+            ap (tail_of part) even ∙ tail-even part c.0 ∙ ap (λ p. p.0) (picks.same c.0 s_in) ∙ sym (tail-even ends t) ∙ ap (tail_of ends) (sym there)
+        | inr odd ↦
+            let half : j / 2 ≡ c.0 = omega (arith, odd) in
+            let there : dart j ≡ 2 * t + 1 = omega (arith, ap σ half, odd) in
+            ap (tail_of part) odd ∙ tail-odd part c.0 ∙ ap (λ p. p.1) (picks.same c.0 s_in) ∙ sym (tail-odd ends t) ∙ ap (tail_of ends) (sym there)
+      ]
+
+  is_part : IsPart ends part dart
+  is_part = record {
+    below = λ j j_in. let low = picks.below (j / 2) (omega arith) in omega (arith, low);
+    apart = λ i j i_in j_in same.
+        let segments : σ (i / 2) ≡ σ (j / 2) = omega (arith, same) in
+        let halves : i / 2 ≡ j / 2 = picks.apart (i / 2) (j / 2) (omega arith) (omega arith) segments in
+        omega (arith, same, segments, halves);
+    reverses = λ j j_in. dart_reverse j;
+    tails = dart_tail;
+  }
+
+  pub picked_flat : (nodes : ℕ) → HasFlat nodes ends → HasFlat nodes part
+  picked_flat nodes has =
+      let over = passes_over nodes ends part dart has.next has.is_map is_part in
+      record {
+        next = over.0;
+        is_map = map_of_part nodes ends part dart has.next has.is_map is_part over.0 over.1;
+        flat = flat_of_part nodes ends part dart has.next has.is_map is_part over.0 over.1 has.flat;
+      }
+
+-- ---- segments of two lists
+
+pub at_left : (xs ys : List (ℕ × ℕ)) (i : ℕ) → i < length xs → ends_at (xs ++ ys) i ≡ ends_at xs i
+at_left xs ys i i_in = get_or_append_left xs ys (0, 0) i i_in
+
+pub at_right : (xs ys : List (ℕ × ℕ)) (i : ℕ) → ends_at (xs ++ ys) (length xs + i) ≡ ends_at ys i
+at_right [] ys i = ap (ends_at ys) (omega arith)
+at_right (x ∷ xs) ys i =
+    let on : length (x ∷ xs) + i ≡ suc (length xs + i) = omega arith in
+    ap (ends_at (x ∷ xs ++ ys)) on ∙ at_right xs ys i
+
+-- the segments in the middle go
+pub dropped_flat : (nodes : ℕ) (pre mid post : List (ℕ × ℕ)) → HasFlat nodes (pre ++ (mid ++ post)) → HasFlat nodes (pre ++ post)
+dropped_flat nodes pre mid post has =
+    let s = length pre in
+    let m = length mid in
+    let σ = λ (i : ℕ). cond (ltb i s) i (i + m) in
+    let size : length (pre ++ (mid ++ post)) ≡ s + (m + length post) = length-append pre (mid ++ post) ∙ ap (λ n. s + n) (length-append mid post) in
+    let less : length (pre ++ post) ≡ s + length post = length-append pre post in
+    let cases : (i : ℕ) → ((i < s) × (σ i ≡ i)) ⊎ ((s ≤ i) × (σ i ≡ i + m)) = λ i. elim (cases_lt i s) [
+      | inl low ↦ inl (low, cond-true _ _ _ (lt-ltb i s low))
+      | inr high ↦ inr (high, cond-false _ _ _ (le-ltb i s high))
+    ] in
+    picked_flat (pre ++ (mid ++ post)) (pre ++ post) σ (record {
+      below = λ i i_in. omega (arith, cases i, size, less, i_in);
+      apart = λ i j i_in j_in same. omega (arith, cases i, cases j, same);
+      same = λ i i_in. elim (cases i) [
+        | inl front ↦ at_left pre post i front.0 ∙ sym (at_left pre (mid ++ post) i front.0) ∙ ap (ends_at (pre ++ (mid ++ post))) (sym front.1)
+        | inr back ↦
+            let k = i - s in
+            let here : i ≡ s + k = omega (arith, back.0) in
+            let there : σ i ≡ s + (m + k) = omega (arith, back.0, back.1) in
+            ap (ends_at (pre ++ post)) here ∙ at_right pre post k ∙ sym (at_right mid post k) ∙ sym (at_right pre (mid ++ post) (m + k)) ∙ ap (ends_at (pre ++ (mid ++ post))) (sym there)
+      ];
+    }) nodes has
+
+-- no segment of the list has the lone node as an end
+pub lone_at : (ends : List (ℕ × ℕ)) (w : ℕ) → is_lone ends w ≡ true → (i : ℕ) → i < length ends → ((ends_at ends i).0 ≢ w) × ((ends_at ends i).1 ≢ w)
+lone_at ends w alone i i_in = (
+  λ same. no_dart_if_lone ends w alone (2 * i) (omega arith) (tail-even ends i ∙ same),
+  λ same. no_dart_if_lone ends w alone (2 * i + 1) (omega arith) (tail-odd ends i ∙ same),
+)
+
+-- ---- a node with two darts is passed over
+
+module _ (nodes u w x : ℕ) (pre post : List (ℕ × ℕ)) (lone_pre : is_lone pre w ≡ true) (lone_post : is_lone post w ≡ true) (u_not : u ≢ w) (x_not : x ≢ w) (two_ends : u ≢ x)
+    (has : HasFlat nodes (pre ++ (u, w) ∷ (w, x) ∷ post)) where
+  abbrev ends : List (ℕ × ℕ)
+  ends = pre ++ (u, w) ∷ (w, x) ∷ post
+
+  abbrev next : ℕ → ℕ
+  next = has.next
+
+  abbrev s : ℕ
+  s = length pre
+
+  abbrev n : ℕ
+  n = length ends
+
+  -- the darts at u, at w twice, and at x
+  abbrev a : ℕ
+  a = 2 * s
+
+  abbrev b : ℕ
+  b = 2 * s + 1
+
+  abbrev c : ℕ
+  c = 2 * (s + 1)
+
+  abbrev d : ℕ
+  d = 2 * (s + 1) + 1
+
+  size : n ≡ s + (2 + length post)
+  size =
+      let two : length ((u, w) ∷ (w, x) ∷ post) ≡ 2 + length post = omega arith in
+      length-append pre ((u, w) ∷ (w, x) ∷ post) ∙ ap (λ k. s + k) two
+
+  at_s : ends_at ends s ≡ (u, w)
+  at_s = get_or_at pre (u, w) ((w, x) ∷ post) (0, 0) s refl
+
+  at_next : ends_at ends (s + 1) ≡ (w, x)
+  at_next = at_right pre ((u, w) ∷ (w, x) ∷ post) 1
+
+  at_post : (k : ℕ) → ends_at ends (s + (2 + k)) ≡ ends_at post k
+  at_post k =
+      let two : 2 + k ≡ suc (suc k) = omega arith in
+      at_right pre ((u, w) ∷ (w, x) ∷ post) (2 + k) ∙ ap (ends_at ((u, w) ∷ (w, x) ∷ post)) two
+
+  -- a segment at w is one of the two
+  at_w : (t : ℕ) → t < n → ((ends_at ends t).0 ≡ w) ⊎ ((ends_at ends t).1 ≡ w) → (t ≡ s) ⊎ (t ≡ s + 1)
+  at_w t t_in at = elim (cases_lt t s) [
+    | inl front ↦
+        let never = lone_at pre w lone_pre t front in
+        let same = at_left pre ((u, w) ∷ (w, x) ∷ post) t front in
+        absurd (elim at [ inl one ↦ never.0 (ap (λ p. p.0) (sym same) ∙ one) | inr two ↦ never.1 (ap (λ p. p.1) (sym same) ∙ two) ])
+    | inr high ↦ elim (cases_eq t s) [
+      | inl here ↦ inl here
+      | inr past ↦ elim (cases_eq t (s + 1)) [
+        | inl second ↦ inr second
+        | inr further ↦
+            let k = t - (s + 2) in
+            let is : t ≡ s + (2 + k) = omega (arith, high, past, further) in
+            let never = lone_at post w lone_post k (omega (arith, size, t_in, is)) in
+            let same = ap (ends_at ends) is ∙ at_post k in
+            absurd (elim at [ inl one ↦ never.0 (ap (λ p. p.0) (sym same) ∙ one) | inr two ↦ never.1 (ap (λ p. p.1) (sym same) ∙ two) ])
+      ]
+    ]
+  ]
+
+  tail_a : tail_of ends a ≡ u
+  tail_a = tail-even ends s ∙ ap (λ p. p.0) at_s
+
+  tail_b : tail_of ends b ≡ w
+  tail_b = tail-odd ends s ∙ ap (λ p. p.1) at_s
+
+  tail_c : tail_of ends c ≡ w
+  tail_c = tail-even ends (s + 1) ∙ ap (λ p. p.0) at_next
+
+  tail_d : tail_of ends d ≡ x
+  tail_d = tail-odd ends (s + 1) ∙ ap (λ p. p.1) at_next
+
+  -- so w has two darts
+  only_two : (y : ℕ) → y < 2 * n → tail_of ends y ≡ w → (y ≡ b) ⊎ (y ≡ c)
+  only_two y y_in at =
+      let t = cases_dart y in
+      let t_in : t.0 < n = omega (arith, t.1) in
+      elim t.1 [
+        | inl even ↦
+            let first : (ends_at ends t.0).0 ≡ w = sym (tail-even ends t.0) ∙ ap (tail_of ends) (sym even) ∙ at in
+            elim (at_w t.0 t_in (inl first)) [
+              | inl here ↦ absurd (u_not (sym (ap (λ p. p.0) at_s) ∙ ap (λ i. (ends_at ends i).0) (sym here) ∙ first))
+              | inr there ↦ inr (omega (arith, even, there))
+            ]
+        | inr odd ↦
+            let second : (ends_at ends t.0).1 ≡ w = sym (tail-odd ends t.0) ∙ ap (tail_of ends) (sym odd) ∙ at in
+            elim (at_w t.0 t_in (inr second)) [
+              | inl here ↦ inl (omega (arith, odd, here))
+              | inr there ↦ absurd (x_not (sym (ap (λ p. p.1) at_next) ∙ ap (λ i. (ends_at ends i).1) (sym there) ∙ second))
+            ]
+      ]
+
+  b_in : b < 2 * n
+  b_in = omega (arith, size)
+
+  c_in : c < 2 * n
+  c_in = omega (arith, size)
+
+  d_in : d < 2 * n
+  d_in = omega (arith, size)
+
+  -- and they follow each other
+  turn : next b ≡ c
+  turn = elim (only_two (next b) (has.is_map.permutes.below b b_in) (has.is_map.stays b b_in ∙ tail_b)) [
+    | inr there ↦ there
+    | inl alone ↦
+        let there = has.is_map.round b c b_in c_in (tail_b ∙ sym tail_c) in
+        absurd (omega (arith, sym (stays_alone next b alone there.0) ∙ there.1))
+  ]
+
+  before : (p : ℕ) × (p < 2 * n) × (next p ≡ a)
+  before = source_of (2 * n) next has.is_map.permutes a (omega (arith, size))
+
+  -- a further segment from u to x lies along the two
+  abbrev from : Corner
+  from = after before.0
+
+  abbrev to : Corner
+  to = after d
+
+  abbrev more : List (ℕ × ℕ)
+  more = ends ++ (node_of ends from, node_of ends to) ∷ []
+
+  abbrev turns : ℕ → ℕ
+  turns y = stand_at from (2 * n) (stand_at to (2 * n + 1) next) y
+
+  from_u : node_of ends from ≡ u
+  from_u = sym (has.is_map.stays before.0 before.1) ∙ ap (tail_of ends) before.2 ∙ tail_a
+
+  comes : IsInsertion nodes ends next from to more turns
+  comes = record {
+    first = before.1;
+    second = d_in;
+    two_nodes = λ same. two_ends (sym from_u ∙ same ∙ tail_d);
+    ends_more = refl;
+    turns = λ y y_in. refl;
+  }
+
+  one_face : Reaches (face_step next) (next before.0) (next d)
+  one_face = (
+    2,
+    ap (λ y. face_step next (face_step next y)) before.2 ∙ ap (λ y. face_step next (next y)) (reverse-even s) ∙ ap (face_step next) turn ∙ ap next (reverse-even (s + 1)),
+  )
+
+  longer : HasFlat nodes more
+  longer = record {
+    next = turns;
+    is_map = map_more nodes ends more from to next turns has.is_map comes;
+    flat = insertion_flat nodes ends more from to next turns has.is_map comes (inl one_face) has.flat;
+  }
+
+  -- it stays, and the two go
+  abbrev left : List (ℕ × ℕ)
+  left = pre ++ (u, x) ∷ post
+
+  left_size : length left ≡ s + (1 + length post)
+  left_size =
+      let one : length ((u, x) ∷ post) ≡ 1 + length post = omega arith in
+      length-append pre ((u, x) ∷ post) ∙ ap (λ k. s + k) one
+
+  more_size : length more ≡ n + 1
+  more_size = length-append ends ((node_of ends from, node_of ends to) ∷ [])
+
+  abbrev σ : ℕ → ℕ
+  σ i = cond (ltb i s) i (cond (eqb i s) n (i + 1))
+
+  cases : (i : ℕ) → ((i < s) × (σ i ≡ i)) ⊎ (((i ≡ s) × (σ i ≡ n)) ⊎ ((s < i) × (σ i ≡ i + 1)))
+  cases i = elim (cases_lt i s) [
+    | inl low ↦ inl (low, cond-true _ _ _ (lt-ltb i s low))
+    | inr high ↦ elim (cases_eq i s) [
+      | inl here ↦ inr (inl (here, cond-false _ _ _ (le-ltb i s high) ∙ cond-true _ _ _ (eq-eqb i s here)))
+      | inr past ↦ inr (inr (omega (arith, high, past), cond-false _ _ _ (le-ltb i s high) ∙ cond-false _ _ _ (ne_eqb i s past)))
+    ]
+  ]
+
+  old : (i : ℕ) → i < n → ends_at more i ≡ ends_at ends i
+  old i i_in = at_left ends ((node_of ends from, node_of ends to) ∷ []) i i_in
+
+  picks : IsPicked more left σ
+  picks = record {
+    below = λ i i_in. omega (arith, cases i, left_size, more_size, size, i_in);
+    apart = λ i j i_in j_in same. omega (arith, cases i, cases j, same, left_size, size, i_in, j_in);
+    same = λ i i_in. elim (cases i) [
+      | inl front ↦
+          at_left pre ((u, x) ∷ post) i front.0 ∙ sym (at_left pre ((u, w) ∷ (w, x) ∷ post) i front.0)
+          ∙ sym (old i (omega (arith, front.0, size))) ∙ ap (ends_at more) (sym front.1)
+      | inr (inl here) ↦
+          let pair : (u, x) ≡ (node_of ends from, node_of ends to) = ap₂ (λ y z. (y, z)) (sym from_u) (sym tail_d) in
+          ap (ends_at left) here.0 ∙ get_or_at pre (u, x) post (0, 0) s refl ∙ pair
+          ∙ sym (get_or_at ends (node_of ends from, node_of ends to) [] (0, 0) n refl) ∙ ap (ends_at more) (sym here.1)
+      | inr (inr back) ↦
+          let k = i - (s + 1) in
+          let is : i ≡ s + (1 + k) = omega (arith, back.0) in
+          let one : 1 + k ≡ suc k = omega arith in
+          let there : σ i ≡ s + (2 + k) = omega (arith, back.1, is) in
+          ap (ends_at left) is ∙ at_right pre ((u, x) ∷ post) (1 + k) ∙ ap (ends_at ((u, x) ∷ post)) one ∙ sym (at_post k)
+          ∙ sym (old (s + (2 + k)) (omega (arith, size, left_size, i_in, is))) ∙ ap (ends_at more) (sym there)
+    ];
+  }
+
+  pub joined_flat : HasFlat nodes left
+  joined_flat = picked_flat more left σ picks nodes longer

@@ -1,0 +1,12 @@
+mod Accepted
+mod Crossings
+mod Flat
+mod Leaves
+mod Placed
+mod Renamed
+mod Rising
+mod RowWeb
+mod Rows
+mod Same
+mod Smoothed
+mod Trees

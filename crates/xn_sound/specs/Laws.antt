@@ -1,0 +1,64 @@
+-- What rows and proof trees show of every drawing.
+use Rattle.std.specs.Prelude.{ℕ, ◌<◌, ◌≤◌, List, length, slice_index_or, All}
+use Rattle.xn_model.specs.Drawing.{IsDrawing, Least}
+use Rattle.xn_model.specs.Examples.{k5}
+use Rattle.xn_model.specs.Graph.{Graph, IsGraph}
+use Rattle.xn_model.specs.Orders.{crossing_count}
+use Rattle.xn_kinds.specs.Examples.{k5_and_two}
+use Rattle.xn_kinds.specs.Row.{RowHolds, value_of, values_in}
+use Rattle.xn_kinds.specs.State.{State, LiesIn, empty_state}
+use Rattle.xn_kinds.specs.Tree.{Accepts, Keeps, Proves, children}
+use Rattle.xn_kinds.specs.declared.rows.Row.{Row}
+use Rattle.xn_kinds.specs.declared.trees.Node.{Node}
+use Rattle.xn_kinds.specs.declared.trees.Node.TheVariants.{Pair, Place, Leaf}
+
+-- ---- rows
+
+-- in every drawing the value of the row is at least 1
+abbrev pub IsMet : Graph → Row → Type 0
+IsMet g row = (ord : ℕ → List ℕ) (next : ℕ → ℕ) → IsDrawing g ord next → 1 ≤ value_of g row (values_in ord)
+
+-- a row that holds is met by every drawing
+abbrev pub RowsAreMet : Type 0
+RowsAreMet = (g : Graph) (row : Row) → IsGraph g → RowHolds g row → IsMet g row
+
+-- ---- trees
+
+-- the node has children
+abbrev pub IsInner : Node → Type 0
+IsInner (Pair e f) = Unit {0}
+IsInner (Place e f) = Unit {0}
+IsInner (Leaf d parts) = ⊥
+
+-- the orders lie in one of the states
+abbrev pub LiesInOne : (ℕ → List ℕ) → List State → Type 0
+LiesInOne ord states = (i : ℕ) × (i < length states) × LiesIn ord (slice_index_or states i empty_state)
+
+-- a drawing that lies in the state of a node lies in that of a child
+abbrev pub DrawingsLieInChildren : Type 0
+DrawingsLieInChildren =
+    (g : Graph) (k : ℕ) (rows : List Row) (s : State) (node : Node) → Keeps g k rows s node → IsInner node →
+    (ord : ℕ → List ℕ) (next : ℕ → ℕ) → IsDrawing g ord next → LiesIn ord s → LiesInOne ord (children s node)
+
+-- in a leaf's state it has k crossings
+abbrev pub LeavesHaveCrossings : Type 0
+LeavesHaveCrossings =
+    (g : Graph) (k : ℕ) (rows : List Row) (s : State) (d : ℕ) (parts : List (ℕ × ℕ)) → All (IsMet g) rows → Keeps g k rows s (Leaf d parts) →
+    (ord : ℕ → List ℕ) (next : ℕ → ℕ) → IsDrawing g ord next → LiesIn ord s → k ≤ crossing_count g ord
+
+-- so in the state from which a tree proves k it has k crossings
+abbrev pub TreesProve : Type 0
+TreesProve =
+    (g : Graph) (k : ℕ) (rows : List Row) (s : State) (nodes : List Node) → All (IsMet g) rows → Proves g k rows s nodes →
+    (ord : ℕ → List ℕ) (next : ℕ → ℕ) → IsDrawing g ord next → LiesIn ord s → k ≤ crossing_count g ord
+
+-- ---- proofs
+
+-- a proof that is accepted shows that every drawing has k crossings
+abbrev pub AcceptedProofsBound : Type 0
+AcceptedProofsBound = (g : Graph) (k : ℕ) (rows : List Row) (nodes : List Node) → IsGraph g → Accepts g k rows nodes → Least g k
+
+-- so one row shows that K5 has a crossing, and a tree that branches shows it of K5 with two edges apart from it
+pub record ExamplesAreBounded : Type 0 where
+  pub k5_crosses : Least k5 1
+  pub far_edges : Least k5_and_two 1
