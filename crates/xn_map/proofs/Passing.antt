@@ -413,11 +413,6 @@ only_two old now view listed v p q two d is =
     let two_old = subst A (sym view) two in
     one_of_two old listed v p q two_old d is.0 (is.1 ∙ two_old.at_node)
 
-pub node_of_two : (m : ListedMap) → IsListedMap m → (v : ℕ) → HasTwoDarts m v → v < m.web.nodes
-node_of_two m listed v (p, q, two) =
-    let low = tail_in m.web.nodes m.web.ends listed.is_map.ends_in p two.first_in in
-    omega (arith, low, two.at_node)
-
 -- what pass_node leaves of the map now
 pub record NodePassed (now : ListedMap) (v : ℕ) (new : ListedMap) : Type 0 where
   pub listed : IsListedMap new

@@ -24,12 +24,12 @@ web_divided web s v w wider longer new s_in v_is w_is wider_is longer_is new_is 
     let half : (2 * s + 1) / 2 ≡ s = omega arith in
     let odd : (2 * s + 1) % 2 ≢ 0 = λ h. omega (arith, h) in
     let moved : ends_moved (2 * s + 1) w (ends_at longer.ends s) ≡ ((ends_at longer.ends s).0, w) = cond-false _ _ _ (ne_eqb _ _ odd) in
-    let at_s : new ≡ graph_of longer.nodes (set longer.ends s ((ends_at longer.ends s).0, w)) =
-    new_is ∙ ap (λ k. graph_of longer.nodes (set longer.ends k (ends_moved (2 * s + 1) w (ends_at longer.ends k)))) half
-    ∙ ap (λ p. graph_of longer.nodes (set longer.ends s p)) moved in
+    let P : ℕ → Type 0 = λ k. new ≡ graph_of longer.nodes (set longer.ends k (ends_moved (2 * s + 1) w (ends_at longer.ends k))) in
+    let Q : ℕ × ℕ → Type 0 = λ p. new ≡ graph_of longer.nodes (set longer.ends s p) in
+    let at_s : Q ((ends_at longer.ends s).0, w) = subst Q moved (subst P half new_is) in
     let q : ℕ × ℕ = (web.nodes, (ends_at web.ends s).1) in
     let wide : wider.nodes ≡ web.nodes + 1 = ap (λ g. g.nodes) wider_is in
-    let pair : (w, v) ≡ q = ap (λ k. (k, v)) w_is ∙ ap (λ k. (web.nodes, k)) v_is in
+    let pair : (w, v) ≡ q = rw (w_is, v_is) refl in
     let long : longer ≡ graph_of (web.nodes + 1) (web.ends ++ q ∷ []) =
     longer_is ∙ ap (λ k. graph_of k (wider.ends ++ (w, v) ∷ [])) wide ∙ ap (λ g. graph_of (web.nodes + 1) (g.ends ++ (w, v) ∷ [])) wider_is
     ∙ ap (λ p. graph_of (web.nodes + 1) (web.ends ++ p ∷ [])) pair in

@@ -73,10 +73,12 @@ impl Anchored {
 
     /// A dart of a node, if it has one.
     pub fn dart_of(&self, v: u32) -> Option<u32>
-        requires { v < self.now.nodes }
         ensures some { IfSome result (λ d. IsDartOf self.now.ends v d) }
         ensures none { IfNone result (HasNoDart self.now.ends v) }
     {
+        if v >= self.web.nodes() {
+            return None;
+        }
         let d = self.darts[v as usize];
         if d < 2 * self.web.segments() && darts::tail(&self.web, d) == v {
             Some(d)

@@ -137,7 +137,7 @@ impl Map {
 
     /// A dart of a node, if it has one.
     pub fn dart_of(&self, v: u32) -> Option<u32>
-        requires { v < self.now.web.nodes }
+        ensures map { IsListedMap self.now }
         ensures some { IfSome result (λ d. IsDartOf self.now.web.ends v d) }
         ensures none { IfNone result (HasNoDart self.now.web.ends v) }
     {

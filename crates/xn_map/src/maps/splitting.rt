@@ -13,8 +13,8 @@ use xn_ring::Rings;
 
 impl Map {
     /// Moves a dart and those that follow it, up to the one before another dart b of its node, to a new node, and answers
-    /// that: the last. On both sides the darts keep their cyclic order. It takes as long as there are
-    /// darts to move. After want of memory the map is as before.
+    /// that: the last. On both sides the darts keep their cyclic order. It takes as long as there are darts to move. After
+    /// want of memory the map is as before.
     pub fn cut_node(&mut self, a: u32, b: u32) -> Result<u32, AllocError>
         requires few { self.old.web.nodes < 2 ^ 30 }
         requires a_in { a < length self.old.next }

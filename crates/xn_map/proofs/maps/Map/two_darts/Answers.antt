@@ -1,14 +1,8 @@
 use Rattle.std.proofs.Common.{subst, sym}
 use Rattle.xn_map.specs.Listed.{ListedMap, map_of}
 use Rattle.xn_map.specs.Passing.{AreTwoDarts, HasTwoDarts}
-use Rattle.xn_map.proofs.Passing.{found_two, node_of_two}
+use Rattle.xn_map.proofs.Passing.{found_two}
 use Rattle.xn_map.proofs.maps.Map.two_darts.Goals as goal
-
-pub dart_of-requires : goal.dart_of-requires
-dart_of-requires c =
-    let m = map_of c.self.inside.web c.self.inside.rings in
-    let H : ListedMap → Type 0 = λ m. HasTwoDarts m c.args.v in
-    node_of_two m c.self.invariant c.args.v (subst H (sym c.self.view_is) c.requires)
 
 pub returns-then-d-e : goal.returns-then-d-e
 returns-then-d-e c =
