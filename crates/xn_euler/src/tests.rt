@@ -12,32 +12,35 @@ fn map(alloc: Global, nodes: u32, ends: &[(u32, u32)], next: &[u32]) -> Result<M
     Ok(Map::make(alloc, web, next)?)
 }
 
+/// The segments of a triangle.
+const TRIANGLE: [(u32, u32); 3] = [(0, 2), (2, 1), (0, 1)];
+/// Its rotation.
+const TURNS: [u32; 6] = [4, 2, 1, 5, 0, 3];
+
 /// A triangle.
 fn triangle(alloc: Global) -> Result<Map, Fail> {
-    map(alloc, 3, &[(0, 2), (2, 1), (0, 1)], &[4, 2, 1, 5, 0, 3])
+    map(alloc, 3, &TRIANGLE, &TURNS)
 }
 
-/// K5 with edge 9 across edge 0; the crossing is node 5.
-fn k5(alloc: Global) -> Result<Map, Fail> {
-    let ends = [
-        (0, 5),
-        (5, 1),
-        (0, 2),
-        (0, 3),
-        (0, 4),
-        (1, 2),
-        (1, 3),
-        (1, 4),
-        (2, 3),
-        (2, 4),
-        (3, 5),
-        (5, 4),
-    ];
-    let next = [
-        6, 22, 21, 14, 8, 16, 4, 20, 0, 19, 12, 18, 3, 17, 10, 23, 11, 7, 5, 15, 13, 1, 2, 9,
-    ];
-    map(alloc, 6, &ends, &next)
-}
+/// K5 with edge 9 across edge 0: its segments. The crossing is node 5.
+const K5: [(u32, u32); 12] = [
+    (0, 5),
+    (5, 1),
+    (0, 2),
+    (0, 3),
+    (0, 4),
+    (1, 2),
+    (1, 3),
+    (1, 4),
+    (2, 3),
+    (2, 4),
+    (3, 5),
+    (5, 4),
+];
+/// Its rotation.
+const K5_TURNS: [u32; 24] = [
+    6, 22, 21, 14, 8, 16, 4, 20, 0, 19, 12, 18, 3, 17, 10, 23, 11, 7, 5, 15, 13, 1, 2, 9,
+];
 
 /// Splits the node of two darts.
 fn split(rt: &impl Abort, map: &mut Map, a: u32, b: u32) -> Result<u32, AllocError> {
@@ -101,23 +104,33 @@ fn counts(v: u64, e: u64, f: u64, c: u64) -> Euler {
 }
 
 #[test]
-fn a_triangle_and_what_is_left_of_it(rt: HostRuntime) -> Result<(), Fail> {
-    let mut split_at = triangle(rt.alloc())?;
-    assert_eq!(rt; split(&rt, &mut split_at, 1, 2)?, 3);
-    assert_eq!(rt; split_at.euler(rt.alloc())?, counts(4, 3, 1, 1));
-    let mut passed = triangle(rt.alloc())?;
-    pass(&rt, &mut passed, 1, 2);
-    assert_eq!(rt; passed.euler(rt.alloc())?, counts(2, 2, 2, 1));
-    assert_eq!(rt; between(&passed, 0, 1), 2);
-    let mut deleted = triangle(rt.alloc())?;
-    delete(&rt, &mut deleted, 2);
-    assert_eq!(rt; deleted.euler(rt.alloc())?, counts(3, 2, 1, 1));
+fn a_triangle_is_split(rt: HostRuntime) -> Result<(), Fail> {
+    let mut map = triangle(rt.alloc())?;
+    assert_eq!(rt; split(&rt, &mut map, 1, 2)?, 3);
+    assert_eq!(rt; map.euler(rt.alloc())?, counts(4, 3, 1, 1));
+    Ok(())
+}
+
+#[test]
+fn a_node_of_a_triangle_is_smoothed(rt: HostRuntime) -> Result<(), Fail> {
+    let mut map = triangle(rt.alloc())?;
+    pass(&rt, &mut map, 1, 2);
+    assert_eq!(rt; map.euler(rt.alloc())?, counts(2, 2, 2, 1));
+    assert_eq!(rt; between(&map, 0, 1), 2);
+    Ok(())
+}
+
+#[test]
+fn a_segment_of_a_triangle_is_deleted(rt: HostRuntime) -> Result<(), Fail> {
+    let mut map = triangle(rt.alloc())?;
+    delete(&rt, &mut map, 2);
+    assert_eq!(rt; map.euler(rt.alloc())?, counts(3, 2, 1, 1));
     Ok(())
 }
 
 #[test]
 fn the_crossing_of_k5_resolved(rt: HostRuntime) -> Result<(), Fail> {
-    let mut k5 = k5(rt.alloc())?;
+    let mut k5 = map(rt.alloc(), 6, &K5, &K5_TURNS)?;
     assert_eq!(rt; k5.euler(rt.alloc())?, counts(6, 12, 8, 1));
     part(&rt, &mut k5, 1)?;
     assert_eq!(rt; k5.euler(rt.alloc())?, counts(5, 10, 7, 1));

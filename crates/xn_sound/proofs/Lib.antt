@@ -1,11 +1,11 @@
 mod Accepted
 mod Crossings
+mod Fewer
 mod Flat
 mod Leaves
 mod Placed
 mod Renamed
 mod Rising
-mod RowWeb
 mod Rows
 mod Same
 mod Smoothed

@@ -1,28 +1,45 @@
 -- In every drawing the value of a row that holds is at least 1.
-use Rattle.std.proofs.Common.{ℕ, inl, inr, arith}
-use Rattle.std.proofs.lemmas.Bool.{cases_eq}
-use Rattle.xn_model.specs.Graph.{Graph}
-use Rattle.xn_model.specs.Map.{IsFlatMap}
-use Rattle.xn_model.specs.Web.{web_of}
+use Rattle.std.proofs.Common.{◌≡◌, ℕ, zero, suc, ◌+◌, ◌<◌, ◌≤◌, inl, inr, true, eqb, length, sym, arith}
+use Rattle.std.specs.List.{range_with_len}
+use Rattle.std.proofs.lemmas.Bool.{cases_eq, or_left, or_right, eq-eqb}
+use Rattle.xn_model.specs.Graph.{edges_of}
+use Rattle.xn_model.specs.Lists.{has}
 use Rattle.xn_extend.specs.Laws.{StuckMeansNoFlatMap}
-use Rattle.xn_kinds.specs.Row.{EvidenceHolds, orders_of, value_of, values_in}
-use Rattle.xn_kinds.specs.declared.rows.Evidence.{Evidence}
+use Rattle.xn_kinds.specs.Row.{orders_of, value_of, values_in}
 use Rattle.xn_kinds.specs.declared.rows.Evidence.TheVariants.{Five, ThreeThree, Extension}
 use Rattle.xn_kura.specs.Laws.{FiveExcludesFlat, ThreeThreeExcludesFlat}
-use Rattle.xn_sound.specs.Laws.{RowsAreMet}
-use Rattle.xn_sound.proofs.RowWeb.{row_flat}
+use Rattle.xn_sound.specs.Laws.{EvidenceExcludesFlatMaps, FewerEdgesStayFlat, RowsAreMet, ZeroMeansTheRowsOrders}
+use Rattle.xn_sound.proofs.Rising.{has-all, rising-from_increasing}
+use Rattle.xn_sound.proofs.Same.{less_is}
 
--- a web for which an evidence of any kind holds has no flat map
-no_flat_map : FiveExcludesFlat → ThreeThreeExcludesFlat → StuckMeansNoFlatMap → (web : Graph) (evidence : Evidence) → EvidenceHolds web evidence →
-    (next : ℕ → ℕ) → IsFlatMap web next → ⊥
-no_flat_map five three stuck web (Five branch paths) holds next flat = five web branch paths holds next flat
-no_flat_map five three stuck web (ThreeThree branch paths) holds next flat = three web branch paths holds next flat
-no_flat_map five three stuck web (Extension list) holds next flat = stuck web list holds next flat
+-- a number of a range stands in it
+has-range : (a n e : ℕ) → a ≤ e → e < a + n → has (range_with_len a n) e ≡ true
+has-range a zero e low high = absurd (omega arith)
+has-range a (suc n) e low high = elim (cases_eq a e) [
+  | inl same ↦ or_left (eqb a e) _ (eq-eqb a e same)
+  | inr other ↦ or_right (eqb a e) (has (range_with_len (a + 1) n) e) (has-range (a + 1) n e (omega arith) (omega arith))
+]
 
-pub rows_are_met : FiveExcludesFlat → ThreeThreeExcludesFlat → StuckMeansNoFlatMap → RowsAreMet
-rows_are_met five three stuck g row is_graph holds ord next drawing = elim (cases_eq (value_of g row (values_in ord)) 0) [
+pub zero_means_the_rows_orders : ZeroMeansTheRowsOrders
+zero_means_the_rows_orders g row ord some all none = record {
+  inside = λ e e_in.
+      let low = has-all (λ x. x < length g.ends) row.edges some.edge_list.below e e_in in
+      has-range 0 (length g.ends) e (omega arith) (omega (arith, low));
+  kept = λ e e_in.
+      let small_rises = rising-from_increasing row.edges some.edge_list.rise in
+      sym (less_is g.ends (edges_of g) row.edges small_rises ord (orders_of row) all some (omega (arith, none)) (omega (arith, none)) e e_in);
+}
+
+pub evidence_excludes_flat_maps : FiveExcludesFlat → ThreeThreeExcludesFlat → StuckMeansNoFlatMap → EvidenceExcludesFlatMaps
+evidence_excludes_flat_maps five three stuck web (Five branch paths) holds next flat = five web branch paths holds next flat
+evidence_excludes_flat_maps five three stuck web (ThreeThree branch paths) holds next flat = three web branch paths holds next flat
+evidence_excludes_flat_maps five three stuck web (Extension list) holds next flat = stuck web list holds next flat
+
+pub rows_are_met : FewerEdgesStayFlat → ZeroMeansTheRowsOrders → EvidenceExcludesFlatMaps → RowsAreMet
+rows_are_met fewer zeros excludes g row is_graph holds ord next drawing = elim (cases_eq (value_of g row (values_in ord)) 0) [
   | inr more ↦ omega (arith, more)
   | inl none ↦
-      let flat = row_flat g is_graph ord next drawing row holds none in
-      absurd (no_flat_map five three stuck (web_of g row.edges (orders_of row)) row.evidence holds.evidence flat.next (record { is_map = flat.is_map; flat = flat.flat }))
+      let part = zeros g row ord holds.orders drawing.orders none in
+      let flat = fewer g (edges_of g) row.edges ord (orders_of row) next is_graph drawing.orders holds.orders part drawing.is_flat_map in
+      absurd (excludes _ row.evidence holds.evidence flat.0 flat.1)
 ]

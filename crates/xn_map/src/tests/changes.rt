@@ -62,27 +62,49 @@ fn make(rt: &impl Abort, map: &mut Map, step: Step) -> Result<u32, AllocError> {
     }
 }
 
+/// A triangle, made of a segment.
+fn triangle(rt: &impl Abort, alloc: Global) -> Result<Map, Fail> {
+    let mut map = one_segment(rt, alloc)?;
+    assert_eq!(rt; make(rt, &mut map, Step::Subdivide(0))?, 2);
+    assert_eq!(rt; make(rt, &mut map, Step::Edge(0, 3))?, 2);
+    Ok(map)
+}
+
+/// What a call answers on the triangle, and the counts after it.
+fn changed(rt: &impl Abort, alloc: Global, step: Step) -> Result<(u32, Euler), Fail> {
+    let mut map = triangle(rt, alloc)?;
+    let answer = make(rt, &mut map, step)?;
+    Ok((answer, map.euler(alloc)?))
+}
+
 #[test]
-fn a_triangle_and_its_changes(rt: HostRuntime) -> Result<(), Fail> {
+fn a_segment_and_a_triangle(rt: HostRuntime) -> Result<(), Fail> {
+    let segment = one_segment(&rt, rt.alloc())?.faces(rt.alloc())?;
+    assert_eq!(rt; segment, 1);
+    let counts = triangle(&rt, rt.alloc())?.euler(rt.alloc())?;
+    assert_eq!(rt;
+        counts,
+        Euler {
+            v: 3,
+            e: 3,
+            f: 2,
+            c: 1
+        }
+    );
+    Ok(())
+}
+
+#[test]
+fn changes_of_a_triangle(rt: HostRuntime) -> Result<(), Fail> {
     let rows = [
         (Step::Node, 3, (4, 3, 3, 2)),
         (Step::Cut(1, 2), 3, (4, 3, 1, 1)),
         (Step::Remove(2), 2, (3, 2, 1, 1)),
     ];
     for (step, answer, (v, e, f, c)) in rows {
-        let mut map = one_segment(&rt, rt.alloc())?;
-        assert_eq!(rt; map.faces(rt.alloc())?, 1);
-        assert_eq!(rt; make(&rt, &mut map, Step::Subdivide(0))?, 2);
-        assert_eq!(rt; make(&rt, &mut map, Step::Edge(0, 3))?, 2);
-        let triangle = Euler {
-            v: 3,
-            e: 3,
-            f: 2,
-            c: 1,
-        };
-        assert_eq!(rt; map.euler(rt.alloc())?, triangle);
-        assert_eq!(rt; make(&rt, &mut map, step)?, answer);
-        assert_eq!(rt; map.euler(rt.alloc())?, Euler { v, e, f, c });
+        let (found, counts) = changed(&rt, rt.alloc(), step)?;
+        assert_eq!(rt; found, answer);
+        assert_eq!(rt; counts, Euler { v, e, f, c });
     }
     Ok(())
 }

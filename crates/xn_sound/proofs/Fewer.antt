@@ -1,21 +1,20 @@
--- Where a row's value in a drawing is 0, the row's web has a flat map.
-use Rattle.std.proofs.Common.{◌≡◌, ℕ, zero, suc, ◌+◌, ◌-◌, ◌<◌, ◌≤◌, ◌⊎◌, inl, inr, true, cond, eqb, ltb, List, [], ◌∷◌, ◌++◌, length, map, refl, sym, ◌∙◌, ap, ap₂, subst, arith}
-use Rattle.std.specs.List.{flat_map, range_with_len}
+-- The web of some edges, with the crossings among them, has a flat map where the web of all does.
+use Rattle.std.proofs.Common.{◌≡◌, ℕ, ◌+◌, ◌-◌, ◌<◌, ◌≤◌, ◌⊎◌, inl, inr, true, cond, ltb, List, [], ◌∷◌, ◌++◌, length, map, refl, sym, ◌∙◌, ap, ap₂, subst, arith}
+use Rattle.std.specs.List.{flat_map}
 use Rattle.std.specs.Prelude.{filter}
-use Rattle.std.proofs.lemmas.Bool.{cases_eq, cases_lt, or_left, or_right, eq-eqb, lt-ltb, le-ltb, cond-true, cond-false}
-use Rattle.xn_model.specs.Drawing.{IsDrawing}
-use Rattle.xn_model.specs.Graph.{EndsIn, Graph, IsGraph, edges_of, ends_at}
+use Rattle.std.proofs.lemmas.Bool.{cases_lt, lt-ltb, le-ltb, cond-true, cond-false}
+use Rattle.xn_model.specs.Graph.{EndsIn, Graph, IsGraph, ends_at}
 use Rattle.xn_model.specs.Lists.{has}
+use Rattle.xn_model.specs.Map.{IsFlatMap}
 use Rattle.xn_model.specs.Orders.{IsOrders, crossings_of}
 use Rattle.xn_model.specs.Web.{crossing_node, segments_of, segments_through, web_of}
-use Rattle.xn_kinds.specs.Row.{RowHolds, orders_of, value_of, values_in}
-use Rattle.xn_kinds.specs.declared.rows.Row.{Row}
 use Rattle.xn_genus.proofs.Kept.{EndsIn_at}
+use Rattle.xn_sound.specs.Laws.{FewerEdgesStayFlat, IsRestriction}
 use Rattle.xn_sound.proofs.Crossings.{IsCross, crossing_at, crossings_apart, node_apart, node_facts, node_turned}
 use Rattle.xn_sound.proofs.Flat.{HasFlat}
 use Rattle.xn_sound.proofs.Renamed.{AreNames, both, renamed_flat}
 use Rattle.xn_sound.proofs.Rising.{Rising, distinct-rising, has-all, rises-filter, rising-from_increasing, same_rising}
-use Rattle.xn_sound.proofs.Same.{has-kept, less_is, not_of_itself}
+use Rattle.xn_sound.proofs.Same.{has-kept, not_of_itself}
 use Rattle.xn_sound.proofs.Smoothed.{AreWays, all_smoothed, edges_dropped, has-first, has-later, has-picked, way}
 
 -- ---- lists of segments under other names
@@ -53,30 +52,8 @@ ends-flat_map : (n : ℕ) (f : ℕ → List (ℕ × ℕ)) (es : List ℕ) → ((
 ends-flat_map n f [] each = tt
 ends-flat_map n f (e ∷ es) each = ends-append n (f e) (flat_map f es) (each e (has-first e es)) (ends-flat_map n f es (λ x x_in. each x (has-later e es x x_in)))
 
--- a number of a range stands in it
-has-range : (a n e : ℕ) → a ≤ e → e < a + n → has (range_with_len a n) e ≡ true
-has-range a zero e low high = absurd (omega arith)
-has-range a (suc n) e low high = elim (cases_eq a e) [
-  | inl same ↦ or_left (eqb a e) _ (eq-eqb a e same)
-  | inr other ↦ or_right (eqb a e) (has (range_with_len (a + 1) n) e) (has-range (a + 1) n e (omega arith) (omega arith))
-]
-
-module _ (g : Graph) (is_graph : IsGraph g) (ord : ℕ → List ℕ) (next : ℕ → ℕ) (drawing : IsDrawing g ord next) (row : Row) (holds : RowHolds g row) (none : value_of g row (values_in ord) ≡ 0) where
-  abbrev edges : List ℕ
-  edges = edges_of g
-
-  abbrev small : List ℕ
-  small = row.edges
-
-  abbrev less : ℕ → List ℕ
-  less = orders_of row
-
-  abbrev all : IsOrders g.ends edges ord
-  all = drawing.orders
-
-  abbrev some : IsOrders g.ends small less
-  some = holds.orders
-
+module _ (g : Graph) (is_graph : IsGraph g) (edges small : List ℕ) (ord less : ℕ → List ℕ) (all : IsOrders g.ends edges ord) (some : IsOrders g.ends small less)
+    (part : IsRestriction edges small ord less) (next : ℕ → ℕ) (flat : IsFlatMap (web_of g edges ord) next) where
   rising : Rising edges
   rising = rising-from_increasing edges all.edge_list.rise
 
@@ -87,7 +64,7 @@ module _ (g : Graph) (is_graph : IsGraph g) (ord : ℕ → List ℕ) (next : ℕ
   edge_in = has-all (λ e. e < length g.ends) edges all.edge_list.below
 
   inside : (e : ℕ) → has small e ≡ true → has edges e ≡ true
-  inside e e_in = let low = has-all (λ x. x < length g.ends) small some.edge_list.below e e_in in has-range 0 (length g.ends) e (omega arith) (omega (arith, low))
+  inside = part.inside
 
   abbrev first : ℕ → ℕ
   first e = (ends_at g.ends e).0
@@ -131,13 +108,13 @@ module _ (g : Graph) (is_graph : IsGraph g) (ord : ℕ → List ℕ) (next : ℕ
   small_cross : (e f : ℕ) → has (less e) f ≡ true → Small e f
   small_cross e f crosses = record { e_in = some.within e f crosses; f_in = some.within f e (some.both_ways e f crosses); crosses = crosses; differ = not_of_itself g.ends e f (some.apart e f crosses) }
 
-  -- ---- the drawing's web, with the row's edges and crossings alone
+  -- ---- the web, with these edges and the crossings among them alone
 
   abbrev fewer : ℕ → List ℕ
   fewer e = filter (has small) (ord e)
 
   fewer_is : (e : ℕ) → has small e ≡ true → fewer e ≡ less e
-  fewer_is = less_is g.ends edges small small_rising ord less all some (omega (arith, none)) (omega (arith, none))
+  fewer_is e e_in = sym (part.kept e e_in)
 
   big_is_high : (e f : ℕ) → has (ord e) f ≡ true → (g.nodes ≤ big e f) × (big e f < nodes)
   big_is_high e f crosses = let facts = node_facts g.nodes edges rising ord all.both_ways e f (big_cross e f crosses) in (omega (arith, facts.2), omega (arith, facts.1, facts.2))
@@ -157,7 +134,7 @@ module _ (g : Graph) (is_graph : IsGraph g) (ord : ℕ → List ℕ) (next : ℕ
       (λ z z_in. (has-picked (has small) edges z z_in).1) (λ z z_in. has-kept (has small) edges z (inside z z_in) z_in)
 
   whole_flat : HasFlat nodes (flat_map (way nodes first last big ord small ord) edges)
-  whole_flat = record { next = next; is_map = drawing.is_flat_map.is_map; flat = drawing.is_flat_map.flat }
+  whole_flat = record { next = next; is_map = flat.is_map; flat = flat.flat }
 
   part_flat : HasFlat nodes (flat_map (way nodes first last big ord small fewer) small)
   part_flat =
@@ -165,7 +142,7 @@ module _ (g : Graph) (is_graph : IsGraph g) (ord : ℕ → List ℕ) (next : ℕ
       all_smoothed nodes first last big ord small ways (distinct-rising small small_rising)
       (subst (λ es. HasFlat nodes (flat_map (way nodes first last big ord small ord) es)) kept_edges dropped)
 
-  -- ---- the same under the row's numbers
+  -- ---- the same under numbers of their own
 
   abbrev rename : ℕ → ℕ
   rename x = cond (ltb x g.nodes) x (big (ends_at few (x - g.nodes)).0 (ends_at few (x - g.nodes)).1)
@@ -187,7 +164,7 @@ module _ (g : Graph) (is_graph : IsGraph g) (ord : ℕ → List ℕ) (next : ℕ
         | inr turned ↦ ap₂ big turned.0 turned.1 ∙ node_turned g.nodes edges rising ord all.both_ways f e (λ same. c.differ (sym same))
       ]
 
-  -- a crossing of the row is one of the drawing
+  -- a crossing that stays was one
   crosses_too : (e f : ℕ) → has (less e) f ≡ true → has (ord e) f ≡ true
   crosses_too e f crosses = (has-picked (has small) (ord e) f (ap (λ xs. has xs f) (fewer_is e (some.within e f crosses)) ∙ crosses)).0
 
@@ -236,19 +213,24 @@ module _ (g : Graph) (is_graph : IsGraph g) (ord : ℕ → List ℕ) (next : ℕ
     ];
   }
 
-  row_way : (e : ℕ) → has small e ≡ true → map (both rename) (segments_of g few less e) ≡ way nodes first last big ord small fewer e
-  row_way e e_in =
+  small_way : (e : ℕ) → has small e ≡ true → map (both rename) (segments_of g few less e) ≡ way nodes first last big ord small fewer e
+  small_way e e_in =
       both-through rename (first e) (last e) (map (mid e) (less e))
       ∙ ap₂ (λ u v. segments_through u (map rename (map (mid e) (less e))) v) (rename_old (first e) (first_in e (inside e e_in))) (rename_old (last e) (last_in e (inside e e_in)))
       ∙ ap (λ ws. segments_through (first e) ws (last e)) (map-twice rename (mid e) (big e) (less e) (λ x x_in. rename_mid e x x_in) ∙ ap (map (big e)) (sym (fewer_is e e_in)))
 
-  row_ends : EndsIn used (web_of g small less).ends
-  row_ends = ends-flat_map used (segments_of g few less) small (λ e e_in.
+  small_ends : EndsIn used (web_of g small less).ends
+  small_ends = ends-flat_map used (segments_of g few less) small (λ e e_in.
       ends-through used (first e) (last e) (mid e) (less e)
       (λ x x_in. let facts = node_facts g.nodes small small_rising less some.both_ways e x (small_cross e x x_in) in omega (arith, facts.1, facts.2))
       (omega (arith, first_in e (inside e e_in))) (omega (arith, last_in e (inside e e_in))))
 
-  pub row_flat : HasFlat (web_of g small less).nodes (web_of g small less).ends
-  row_flat =
-      renamed_flat used nodes (web_of g small less).ends rename row_ends names
-      (subst (HasFlat nodes) (sym (both-flat_map rename (segments_of g few less) (way nodes first last big ord small fewer) small row_way)) part_flat)
+  fewer_flat : HasFlat (web_of g small less).nodes (web_of g small less).ends
+  fewer_flat =
+      renamed_flat used nodes (web_of g small less).ends rename small_ends names
+      (subst (HasFlat nodes) (sym (both-flat_map rename (segments_of g few less) (way nodes first last big ord small fewer) small small_way)) part_flat)
+
+pub fewer_edges_stay_flat : FewerEdgesStayFlat
+fewer_edges_stay_flat g edges small ord less next is_graph all some part flat =
+    let has = fewer_flat g is_graph edges small ord less all some part next flat in
+    (has.next, record { is_map = has.is_map; flat = has.flat })
