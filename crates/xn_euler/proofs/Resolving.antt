@@ -1,5 +1,5 @@
 -- A node with four darts is split, and the two nodes are passed over.
-use Rattle.std.proofs.Common.{◌≡◌, ◌≢◌, ℕ, zero, suc, ◌+◌, ◌*◌, ◌/◌, ◌%◌, ◌<◌, ◌≤◌, ◌⊎◌, inl, inr, length, refl, sym, ◌∙◌, ap, subst, arith}
+use Rattle.std.proofs.Common.{◌≡◌, ◌≢◌, ℕ, zero, suc, ◌+◌, ◌*◌, ◌/◌, ◌%◌, ◌<◌, ◌≤◌, ◌⊎◌, inl, inr, length, min, refl, sym, ◌∙◌, ap, subst, arith}
 use Rattle.std.proofs.lemmas.Bool.{cases_eq, cases_order, cond-true, cond-false, eq-eqb, ne_eqb}
 use Rattle.xn_model.specs.Lists.{at}
 use Rattle.xn_model.specs.Map.{IsFlat, IsMap, reverse_of, tail_of}
@@ -11,6 +11,7 @@ use Rattle.xn_surgery.specs.Resolution.{IsResolution}
 use Rattle.xn_surgery.specs.Smoothing.{IsSmoothing, dart_smoothed, node_before}
 use Rattle.xn_surgery.specs.Splitting.{InArc, IsSplit}
 use Rattle.xn_surgery.proofs.Resolve.{resolution_flat}
+use Rattle.xn_map.specs.Anchored.{IsDartOf}
 use Rattle.xn_map.specs.Changes.{StaysFlat}
 use Rattle.xn_map.specs.Cutting.{Splits}
 use Rattle.xn_map.specs.Listed.{IsListedMap, ListedMap}
@@ -43,6 +44,63 @@ first_is m listed v a b c d four e e_in at_v least =
     let spot = ring_of_four (at m.next) a b c d four.to_second four.to_third four.to_fourth four.to_first walk.0 in
     let low : ¬ (a < e) = λ less. least a less four.at_node in
     omega (arith, spot, walk.1, low, four.least.0, four.least.1, four.least.2)
+
+-- the least of any four that follow each other at v is the first
+least_is : (m : ListedMap) → IsListedMap m → (v a b c d : ℕ) → AreFourDarts m v a b c d → (s t u w : ℕ) → IsDartOf m.web.ends v s → t ≡ at m.next s → u ≡ at m.next t → w ≡ at m.next u →
+    min (min (min s t) u) w ≡ a
+least_is m listed v a b c d four s t u w is t_is u_is w_is =
+    let f = at m.next in
+    let walk = listed.is_map.round a s four.first_in is.0 (four.at_node ∙ sym is.1) in
+    let after : (x y z : ℕ) → z ≡ f y → y ≡ x → z ≡ f x = λ x y z z_is y_is. z_is ∙ ap f y_is in
+    elim (ring_of_four f a b c d four.to_second four.to_third four.to_fourth four.to_first walk.0) [
+      | inl at_a ↦
+          let s_a : s ≡ a = sym walk.1 ∙ at_a in
+          let t_b : t ≡ b = after a s t t_is s_a ∙ four.to_second in
+          let u_c : u ≡ c = after b t u u_is t_b ∙ four.to_third in
+          let w_d : w ≡ d = after c u w w_is u_c ∙ four.to_fourth in
+          omega (arith, s_a, t_b, u_c, w_d, four.least.0, four.least.1, four.least.2)
+      | inr on ↦ elim on [
+        | inl at_b ↦
+            let s_b : s ≡ b = sym walk.1 ∙ at_b in
+            let t_c : t ≡ c = after b s t t_is s_b ∙ four.to_third in
+            let u_d : u ≡ d = after c t u u_is t_c ∙ four.to_fourth in
+            let w_a : w ≡ a = after d u w w_is u_d ∙ four.to_first in
+            omega (arith, s_b, t_c, u_d, w_a, four.least.0, four.least.1, four.least.2)
+        | inr more ↦ elim more [
+          | inl at_c ↦
+              let s_c : s ≡ c = sym walk.1 ∙ at_c in
+              let t_d : t ≡ d = after c s t t_is s_c ∙ four.to_fourth in
+              let u_a : u ≡ a = after d t u u_is t_d ∙ four.to_first in
+              let w_b : w ≡ b = after a u w w_is u_a ∙ four.to_second in
+              omega (arith, s_c, t_d, u_a, w_b, four.least.0, four.least.1, four.least.2)
+          | inr at_d ↦
+              let s_d : s ≡ d = sym walk.1 ∙ at_d in
+              let t_a : t ≡ a = after d s t t_is s_d ∙ four.to_first in
+              let u_b : u ≡ b = after a t u u_is t_a ∙ four.to_second in
+              let w_c : w ≡ c = after b u w w_is u_b ∙ four.to_third in
+              omega (arith, s_d, t_a, u_b, w_c, four.least.0, four.least.1, four.least.2)
+        ]
+      ]
+    ]
+
+-- what is found by looking at four darts
+pub record IsLeastAt (m : ListedMap) (v e : ℕ) : Type 0 where
+  pub dart : e < length m.next
+  pub node : tail_of m.web.ends e ≡ v
+  pub least : (d : ℕ) → d < e → tail_of m.web.ends d ≢ v
+
+pub least_at : (m : ListedMap) → IsListedMap m → (v : ℕ) → ((a b c d : ℕ) × AreFourDarts m v a b c d) → (s t u w : ℕ) → IsDartOf m.web.ends v s → t ≡ at m.next s → u ≡ at m.next t → w ≡ at m.next u →
+    IsLeastAt m v (min (min (min s t) u) w)
+least_at m listed v (a, b, c, d, four) s t u w is t_is u_is w_is =
+    let P : ℕ → Type 0 = λ e. IsLeastAt m v e in
+    subst P (sym (least_is m listed v a b c d four s t u w is t_is u_is w_is)) record {
+      dart = omega (arith, four.first_in, listed.fits);
+      node = four.at_node;
+      least = λ x low here.
+          let walk = listed.is_map.round a x four.first_in (omega (arith, low, four.first_in)) (four.at_node ∙ sym here) in
+          let spot = ring_of_four (at m.next) a b c d four.to_second four.to_third four.to_fourth four.to_first walk.0 in
+          omega (arith, spot, walk.1, low, four.least.0, four.least.1, four.least.2);
+    }
 
 -- where the calls that look for the cut come
 pub cut_is : (m : ListedMap) → IsListedMap m → (v : ℕ) (how : Way) → CanResolve m v how → (a b c : ℕ) → a < length m.next → tail_of m.web.ends a ≡ v →

@@ -2,7 +2,7 @@ ghost use Rattle.std.specs.Prelude.{◌≡◌, ◌≢◌, ℕ, ◌*◌, ◌^◌,
 ghost use Rattle.xn_model.specs.Map.{tail_of};
 ghost use Rattle.xn_map.specs.Changes.{StaysFlat};
 ghost use Rattle.xn_map.specs.Listed.{IsListedMap};
-ghost use Rattle.xn_euler.specs.Resolving.{CanResolve, IsCut, Resolves};
+ghost use Rattle.xn_euler.specs.Resolving.{AreFourDarts, CanResolve, IsCut, Resolves};
 
 use std::alloc::AllocError;
 use xn_map::Map;
@@ -49,18 +49,18 @@ fn cut(map: &Map, v: u32, how: Way) -> (u32, u32)
     }
 }
 
-// The least dart of a node that has one.
+// The least dart of a node that has four.
 fn least_dart(map: &Map, v: u32) -> u32
-    requires { (d : ℕ) × (d < length map.now.next) × (tail_of map.now.web.ends d ≡ v) }
+    requires { (a b c d : ℕ) × AreFourDarts map.now v a b c d }
     ensures map { IsListedMap map.now }
     ensures dart { result < length map.now.next }
     ensures node { tail_of map.now.web.ends result ≡ v }
     ensures least { (d : ℕ) → d < result → tail_of map.now.web.ends d ≢ v }
 {
-    for d in 0..2 * map.web().segments() {
-        if map.tail(d) == v {
-            return d;
-        }
-    }
-    unreachable!()
+    let Some(d) = map.dart_of(v) else {
+        unreachable!()
+    };
+    let e = map.next(d);
+    let f = map.next(e);
+    d.min(e).min(f).min(map.next(f))
 }

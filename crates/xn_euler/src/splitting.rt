@@ -7,7 +7,8 @@ use std::alloc::AllocError;
 use xn_map::Map;
 
 /// Moves a dart and those that follow it, up to the one before another dart b of its node, to a new node, and answers that:
-/// the last. On both sides the darts keep their cyclic order, and a flat map stays flat. It takes no memory.
+/// the last. On both sides the darts keep their cyclic order, and a flat map stays flat. After want of memory the map is
+/// as before.
 pub fn split_node(map: &mut Map, a: u32, b: u32) -> Result<u32, AllocError>
     requires few { map.old.web.nodes < 2 ^ 30 }
     requires a_in { a < length map.old.next }

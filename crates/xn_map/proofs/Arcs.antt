@@ -1,12 +1,15 @@
 -- Arcs of a ring, whose darts move to another node one after another.
-use Rattle.std.proofs.Common.{◌≡◌, ◌≢◌, ℕ, zero, suc, ◌*◌, ◌<◌, inl, inr, length, sym, ◌∙◌, ap, arith}
+use Rattle.std.proofs.Common.{◌≡◌, ◌≢◌, ℕ, zero, suc, ◌*◌, ◌<◌, ◌≤◌, ◌⊎◌, inl, inr, List, length, refl, sym, ◌∙◌, ap, arith}
 use Rattle.std.proofs.lemmas.Bool.{cases_eq, cond-true, cond-false, eq-eqb, ne_eqb}
 use Rattle.xn_model.specs.Graph.{Graph}
 use Rattle.xn_model.specs.Lists.{position_in}
-use Rattle.xn_model.specs.Map.{tail_of}
+use Rattle.xn_model.specs.Map.{IsMap, tail_of}
 use Rattle.xn_model.specs.Permutation.{Permutes, Reaches, iterate, walk}
-use Rattle.xn_map.specs.Cutting.{MovesDart}
-use Rattle.xn_ring.proofs.Orbits.{iterate-step, within}
+use Rattle.xn_surgery.specs.Splitting.{InArc}
+use Rattle.xn_map.specs.Anchored.{IsDartOf, StaysBehind}
+use Rattle.xn_map.specs.Cutting.{MovesArc, MovesDart}
+use Rattle.xn_map.specs.Passing.{MovesNode}
+use Rattle.xn_ring.proofs.Orbits.{comes_back, iterate-step, iterate_below, within}
 
 -- a number that is met within k steps is met no later on a longer walk
 same_position : (f : ℕ → ℕ) (k d b i : ℕ) → i < k → iterate f i d ≡ b → position_in (walk f (suc k) d) b ≡ position_in (walk f k d) b
@@ -72,3 +75,93 @@ arc_more next a b v d e old mid new below so_far other move e_is =
     onward : (k : ℕ) → iterate next k d ≡ b → Reaches next e b
     onward zero here = absurd (other here)
     onward (suc k) there = (k, ap (iterate next k) e_is ∙ iterate-step next k d ∙ there)
+
+-- a walk along a rotation stays at one node
+pub tail_walk : (n : ℕ) (ends : List (ℕ × ℕ)) (next : ℕ → ℕ) → Permutes n next → ((d : ℕ) → d < n → tail_of ends (next d) ≡ tail_of ends d) → (d : ℕ) → d < n →
+    (k : ℕ) → tail_of ends (iterate next k d) ≡ tail_of ends d
+tail_walk n ends next permutes stays d d_in zero = refl
+tail_walk n ends next permutes stays d d_in (suc k) =
+    stays (iterate next k d) (iterate_below n next permutes k d d_in) ∙ tail_walk n ends next permutes stays d d_in k
+
+-- b stays where the darts of the arc were
+pub stays_behind : (n : ℕ) (next : ℕ → ℕ) (a b v d : ℕ) (old mid : Graph) → n ≡ 2 * length old.ends → Permutes n next → ((e : ℕ) → e < n → tail_of old.ends (next e) ≡ tail_of old.ends e) →
+    d < n → ArcSoFar next a b v d old mid → d ≢ b → StaysBehind mid.ends d v b
+stays_behind n next a b v d old mid size permutes stays d_in so_far other = elim (cases_eq (tail_of mid.ends d) v) [
+  | inl there ↦ inl there
+  | inr away ↦
+      let b_in : b < n = omega (arith, so_far.comes.1, iterate_below n next permutes so_far.comes.0 d d_in) in
+      let d_old : d < 2 * length old.ends = omega (arith, d_in, size) in
+      let b_old : b < 2 * length old.ends = omega (arith, b_in, size) in
+      let d_stays = so_far.stayed d d_old (λ l l_in same. away (ap (tail_of mid.ends) (sym same) ∙ so_far.moved l l_in)) in
+      let b_stays = so_far.stayed b b_old (λ l l_in same. so_far.unmet l l_in same) in
+      let one : tail_of old.ends b ≡ tail_of old.ends d = ap (tail_of old.ends) (sym so_far.comes.1) ∙ tail_walk n old.ends next permutes stays d d_in so_far.comes.0 in
+      inr (inl ((omega (arith, b_old, so_far.same_length), b_stays ∙ one ∙ sym d_stays), λ same. other (sym same)))
+]
+
+-- the ring of a is a and the arc from the next dart back to a
+in_ring : (next : ℕ → ℕ) (a : ℕ) (k x : ℕ) → iterate next k a ≡ x → (x ≡ a) ⊎ InArc next (next a) a x
+in_ring next a zero x there = inl (sym there)
+in_ring next a (suc k) x there = elim (cases_eq x a) [
+  | inl here ↦ inl here
+  | inr other ↦ inr (elim (in_ring next a k (iterate next k a) refl) [
+    | inl first ↦
+        let one : next a ≡ x = ap next (sym first) ∙ there in
+        (0, one, λ l low. passes_none l low (λ same. other (sym one ∙ same)))
+    | inr later ↦ (suc later.0, ap next later.1 ∙ there, λ l low. passes_more l later.0 low later.2 (λ same. other (sym there ∙ ap next (sym later.1) ∙ same)))
+  ])
+]
+  where
+    passes_none : (l : ℕ) → l ≤ 0 → next a ≢ a → iterate next l (next a) ≢ a
+    passes_none zero low other = other
+    passes_none (suc l) low other = absurd (omega (arith, low))
+
+    passes_more : (l i : ℕ) → l ≤ suc i → ((j : ℕ) → j ≤ i → iterate next j (next a) ≢ a) → next (iterate next i (next a)) ≢ a → iterate next l (next a) ≢ a
+    passes_more l i low passes other = elim (cases_eq l (suc i)) [
+      | inl last ↦ λ same. other (ap (λ j. iterate next j (next a)) (sym last) ∙ same)
+      | inr earlier ↦ passes l (omega (arith, low, earlier))
+    ]
+
+module _ (nodes : ℕ) (old mid : Graph) (next : ℕ → ℕ) (a u v : ℕ) (map : IsMap nodes old.ends next) (at_u : IsDartOf old.ends u a) (arc : MovesArc next (next a) a v old mid) where
+  a_stays : tail_of mid.ends a ≡ tail_of old.ends a
+  a_stays = arc.stayed a at_u.0 (λ there. there.2 there.0 (omega arith) there.1)
+
+  turned : (x : ℕ) → x < 2 * length old.ends → tail_of old.ends x ≡ u → (x ≡ a) ⊎ InArc next (next a) a x
+  turned x x_in here = let walk = map.round a x at_u.0 x_in (at_u.1 ∙ sym here) in in_ring next a walk.0 x walk.1
+
+  -- once the arc has moved a is alone at its node
+  pub last_behind : StaysBehind mid.ends a v a
+  last_behind = elim (cases_eq (tail_of mid.ends a) v) [
+    | inl there ↦ inl there
+    | inr away ↦ inr (inr (λ x is.
+        let x_in : x < 2 * length old.ends = omega (arith, is.0, arc.same_length) in
+        let apart : InArc next (next a) a x → ⊥ = λ there. away (sym is.1 ∙ arc.moved x x_in there) in
+        elim (turned x x_in (sym (arc.stayed x x_in apart) ∙ is.1 ∙ a_stays ∙ at_u.1)) [ inl same ↦ same | inr there ↦ absurd (apart there) ]))
+  ]
+
+  pub node_moved : (new : Graph) → MovesDart a v mid new → MovesNode u v old new
+  node_moved new move = record {
+    same_nodes = move.same_nodes ∙ arc.same_nodes;
+    same_length = move.same_length ∙ arc.same_length;
+    tails = λ x x_in.
+        let x_mid : x < 2 * length mid.ends = omega (arith, x_in, arc.same_length) in
+        let n = 2 * length old.ends in
+        elim (cases_eq (tail_of old.ends x) u) [
+          | inl here ↦ elim (cases_eq x a) [
+            | inl same ↦ move.tails x x_mid ∙ cond-true _ _ _ (eq-eqb x a same) ∙ sym (cond-true _ _ _ (eq-eqb _ u here))
+            | inr other ↦ elim (turned x x_in here) [
+              | inl same ↦ absurd (other same)
+              | inr there ↦ move.tails x x_mid ∙ cond-false _ _ _ (ne_eqb x a other) ∙ arc.moved x x_in there ∙ sym (cond-true _ _ _ (eq-eqb _ u here))
+            ]
+          ]
+          | inr away ↦
+              let other : x ≢ a = λ same. away (ap (tail_of old.ends) same ∙ at_u.1) in
+              let apart : InArc next (next a) a x → ⊥ = λ there.
+              away (ap (tail_of old.ends) (sym there.1)
+              ∙ tail_walk n old.ends next map.permutes map.stays (next a) (map.permutes.below a at_u.0) there.0 ∙ map.stays a at_u.0 ∙ at_u.1) in
+              move.tails x x_mid ∙ cond-false _ _ _ (ne_eqb x a other) ∙ arc.stayed x x_in apart ∙ sym (cond-false _ _ _ (ne_eqb _ u away))
+        ];
+  }
+
+-- from the dart after a the walk comes to a
+pub comes_round : (n : ℕ) (next : ℕ → ℕ) → Permutes n next → (a : ℕ) → a < n → Reaches next (next a) a
+comes_round n next permutes a a_in = let back = comes_back n next permutes a a_in in (back.0, iterate-step next back.0 a ∙ back.2)

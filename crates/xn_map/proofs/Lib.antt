@@ -1,3 +1,4 @@
+pub mod Anchoring
 pub mod Arcs
 pub mod Changes
 pub mod Counting
@@ -8,6 +9,7 @@ pub mod Forest
 pub mod JoinedNodes
 pub mod Marking
 pub mod Passing
+pub mod Removal
 pub mod Removed
 pub mod Rotations
 pub mod Subdivided

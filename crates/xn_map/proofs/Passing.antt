@@ -1,25 +1,26 @@
 -- The steps by which a node with two darts is passed over, and what they leave.
-use Rattle.std.proofs.Common.{◌≡◌, ◌≢◌, ℕ, zero, suc, ◌+◌, ◌-◌, ◌*◌, ◌/◌, ◌%◌, ◌<◌, ◌≤◌, ◌⊎◌, inl, inr, cond, eqb, List, length, take, refl, sym, ◌∙◌, ap, subst, arith}
+use Rattle.std.proofs.Common.{◌≡◌, ◌≢◌, ℕ, zero, suc, ◌+◌, ◌-◌, ◌*◌, ◌/◌, ◌%◌, ◌<◌, ◌≤◌, ◌⊎◌, inl, inr, List, length, take, refl, sym, ◌∙◌, ap, subst, arith}
 use Rattle.std.specs.List.{swap_remove}
 use Rattle.std.proofs.lemmas.Bool.{cases_eq, cond-true, cond-false, eq-eqb, ne_eqb}
 use Rattle.std.proofs.lemmas.List.{get_or-take, length-take-le}
-use Rattle.xn_model.specs.Graph.{Graph, EndsIn, ends_at}
+use Rattle.xn_model.specs.Graph.{Graph, EndsIn}
 use Rattle.xn_model.specs.Lists.{at}
 use Rattle.xn_model.specs.Map.{IsMap, reverse_of, tail_of}
 use Rattle.xn_model.specs.Permutation.{Permutes, iterate}
 use Rattle.xn_model.proofs.Darts.{cases_dart, reverse-even, reverse-odd, reverse_below}
 use Rattle.xn_graph.specs.Limits.{graph_of}
-use Rattle.xn_graph.proofs.Ends.{ends_at-swap_remove, length-swap_remove}
 use Rattle.xn_ring.proofs.Without.{without-before, without-other}
 use Rattle.xn_genus.specs.Deletion.{dart_before}
 use Rattle.xn_genus.proofs.Compress.{EndsIn_tails, half_reverse, tail_in}
 use Rattle.xn_surgery.specs.Smoothing.{IsSmoothing, dart_smoothed, node_before}
 use Rattle.xn_surgery.proofs.Smooth.{map_smoothed}
+use Rattle.xn_map.specs.Anchored.{IsDartOf, OutlastsAt}
 use Rattle.xn_map.specs.Changes.{IsFilled, TakesOut, TakesPlace, new_name}
 use Rattle.xn_map.specs.Cutting.{MovesDart}
 use Rattle.xn_map.specs.Listed.{IsListedMap, ListedMap, map_of}
 use Rattle.xn_map.specs.Passing.{AreTwoDarts, HasTwoDarts, LeadsOn, LosesNode, MovesNode, RunsOn, Smooths, dart_run}
 use Rattle.xn_map.proofs.Fill.{dart_before_in}
+use Rattle.xn_map.proofs.Removal.{fewer, tail_before}
 
 pub reverse_other : (q : ℕ) → reverse_of q ≢ q
 reverse_other q same = let c = cases_dart q in elim c.1 [
@@ -102,46 +103,48 @@ module _ (p q : ℕ) (old half new : List ℕ) (p_in : p < length old) (q_in : q
     ];
   }
 
--- the tails of two darts on one side of equal segments
-tail_agrees : (a b : List (ℕ × ℕ)) (x y : ℕ) → ends_at a (x / 2) ≡ ends_at b (y / 2) → x % 2 ≡ y % 2 → tail_of a x ≡ tail_of b y
-tail_agrees a b x y same side = ap (λ e. cond (eqb (x % 2) 0) e.0 e.1) same ∙ ap (λ k. cond (eqb k 0) (ends_at b (y / 2)).0 (ends_at b (y / 2)).1) side
+pub sides : (q d : ℕ) → d / 2 ≡ q / 2 → (d ≡ q) ⊎ (d ≡ reverse_of q)
+sides q d half = let c = cases_dart q in elim (cases_eq d q) [
+  | inl same ↦ inl same
+  | inr other ↦ inr (elim c.1 [
+    | inl even ↦ let odd : reverse_of q ≡ 2 * c.0 + 1 = ap reverse_of even ∙ reverse-even c.0 in omega (arith, half, even, odd, other)
+    | inr odd ↦ let even : reverse_of q ≡ 2 * c.0 = ap reverse_of odd ∙ reverse-odd c.0 in omega (arith, half, odd, even, other)
+  ])
+]
 
--- the darts at u below d are at v
-pub record MovedBelow (u v d : ℕ) (old new : Graph) : Type 0 where
-  pub same_nodes : new.nodes ≡ old.nodes
-  pub same_length : length new.ends ≡ length old.ends
-  pub done : (x : ℕ) → x < d → tail_of new.ends x ≡ new_name u v (tail_of old.ends x)
-  pub left : (x : ℕ) → d ≤ x → x < 2 * length old.ends → tail_of new.ends x ≡ tail_of old.ends x
+-- once p is at the far end of q's segment it stays there, and the near end has no dart but q
+pub outlasts : (p q far : ℕ) (old mid : Graph) → p < 2 * length old.ends → q < 2 * length old.ends → p / 2 ≢ q / 2 → tail_of old.ends q ≡ tail_of old.ends p →
+    ((d : ℕ) → IsDartOf old.ends (tail_of old.ends p) d → (d ≡ p) ⊎ (d ≡ q)) → far ≡ tail_of old.ends (reverse_of q) → MovesDart p far old mid →
+    (d : ℕ) → d / 2 ≡ q / 2 → OutlastsAt mid.ends (q / 2) d p
+outlasts p q far old mid p_in q_in apart one_node only far_is move d half =
+    let r = reverse_of q in
+    let r_in = reverse_below (length old.ends) q q_in in
+    let r_half = half_reverse q in
+    let p_now : tail_of mid.ends p ≡ far = move.tails p p_in ∙ cond-true _ _ _ (eq-eqb p p refl) in
+    let kept : (x : ℕ) → x < 2 * length old.ends → x ≢ p → tail_of mid.ends x ≡ tail_of old.ends x = λ x x_in other. move.tails x x_in ∙ cond-false _ _ _ (ne_eqb x p other) in
+    let q_other : q ≢ p = λ same. apart (ap (λ x. x / 2) (sym same)) in
+    let r_other : r ≢ p = λ same. apart (ap (λ x. x / 2) (sym same) ∙ r_half) in
+    let r_far : tail_of old.ends r ≢ tail_of old.ends p = λ same. elim (only r (r_in, same)) [ inl first ↦ r_other first | inr second ↦ reverse_other q second ] in
+    let P : ℕ → Type 0 = λ z. OutlastsAt mid.ends (q / 2) z p in
+    elim (sides q d half) [
+      | inl near ↦ subst P (sym near) (inr (λ x is.
+          let x_in : x < 2 * length old.ends = omega (arith, is.0, move.same_length) in
+          let at_v : tail_of mid.ends x ≡ tail_of old.ends p = is.1 ∙ kept q q_in q_other ∙ one_node in
+          elim (cases_eq x p) [
+            | inl same ↦ absurd (r_far (sym far_is ∙ sym p_now ∙ ap (tail_of mid.ends) (sym same) ∙ at_v))
+            | inr other ↦ elim (only x (x_in, sym (kept x x_in other) ∙ at_v)) [ inl first ↦ absurd (other first) | inr second ↦ ap (λ z. z / 2) second ]
+          ]))
+      | inr away ↦ subst P (sym away) (inl ((omega (arith, p_in, move.same_length), p_now ∙ far_is ∙ sym (kept r r_in r_other)), apart))
+    ]
 
 -- the end of p's segment is moved, and q's segment goes
 module _ (p q far : ℕ) (old mid new : Graph) (q_in : q < 2 * length old.ends) (far_is : far ≡ tail_of old.ends (reverse_of q))
     (move : MovesDart p far old mid) (new_is : new ≡ graph_of mid.nodes (swap_remove mid.ends (q / 2) (0, 0))) where
-  left : ℕ
-  left = length new.ends
+  s_in : q / 2 < length mid.ends
+  s_in = omega (arith, q_in, move.same_length)
 
   fewer_mid : length mid.ends ≡ suc (length new.ends)
-  fewer_mid =
-      let less = ap (λ w. length w.ends) new_is ∙ length-swap_remove mid.ends (q / 2) (0, 0) in
-      omega (arith, less, q_in, move.same_length)
-
-  before : (j : ℕ) → j < 2 * length new.ends → tail_of new.ends j ≡ tail_of mid.ends (dart_before (q / 2) (length new.ends) j)
-  before j j_in =
-      let s = q / 2 in
-      let s_in : s < length mid.ends = omega (arith, q_in, move.same_length) in
-      let low : j / 2 < length mid.ends - 1 = omega (arith, j_in, fewer_mid) in
-      let top : length mid.ends - 1 ≡ length new.ends = omega (arith, fewer_mid) in
-      let moved = ap (λ w. ends_at w.ends (j / 2)) new_is ∙ ends_at-swap_remove mid.ends s s_in (j / 2) low in
-      elim (cases_eq (j / 2) s) [
-        | inl here ↦
-            let e = dart_before s (length new.ends) j in
-            let e_is : e ≡ 2 * length new.ends + j % 2 = cond-true _ _ _ (eq-eqb _ _ here) in
-            let half : length new.ends ≡ e / 2 = omega (arith, e_is) in
-            let side : j % 2 ≡ e % 2 = omega (arith, e_is) in
-            tail_agrees new.ends mid.ends j e (moved ∙ ap (ends_at mid.ends) (cond-true _ _ _ (eq-eqb _ _ here) ∙ top ∙ half)) side
-        | inr other ↦
-            tail_agrees new.ends mid.ends j j (moved ∙ ap (ends_at mid.ends) (cond-false _ _ _ (ne_eqb _ _ other))) refl
-            ∙ ap (tail_of mid.ends) (sym (cond-false _ _ _ (ne_eqb _ _ other)))
-      ]
+  fewer_mid = fewer (q / 2) mid new s_in new_is
 
   pub leads_on : LeadsOn p q old new
   leads_on = record {
@@ -151,7 +154,7 @@ module _ (p q far : ℕ) (old mid new : Graph) (q_in : q < 2 * length old.ends) 
         let z = dart_before (q / 2) (length new.ends) j in
         let z_low = dart_before_in (q / 2) (length new.ends) j j_in in
         let z_in : z < 2 * length old.ends = omega (arith, z_low, fewer_mid, move.same_length) in
-        before j j_in ∙ move.tails z z_in ∙ elim (cases_eq z p) [
+        tail_before (q / 2) mid new s_in new_is j j_in ∙ move.tails z z_in ∙ elim (cases_eq z p) [
           | inl here ↦ cond-true _ _ _ (eq-eqb _ _ here) ∙ far_is ∙ ap (tail_of old.ends) (sym (cond-true _ _ _ (eq-eqb _ _ here)))
           | inr other ↦ cond-false _ _ _ (ne_eqb _ _ other) ∙ ap (tail_of old.ends) (sym (cond-false _ _ _ (ne_eqb _ _ other)))
         ];
@@ -258,17 +261,7 @@ module _ (m : ListedMap) (listed : IsListedMap m) (v p q : ℕ) (two : AreTwoDar
       let low : d < 2 * last = omega (arith, d_in, led_size) in
       (start_in d low).1 (sym (led_tail d low) ∙ at_v)
 
-  module _ (web : Graph) (loses : LosesNode v led web) (turned filled next : List ℕ) (runs : RunsOn p q m.next turned) (fill : IsFilled (q / 2) last turned filled)
-      (next_is : next ≡ take (length filled - 2) filled) where
-    abbrev top : ℕ
-    top = web.nodes
-
-    top_is : m.web.nodes ≡ suc top
-    top_is = sym leads.same_nodes ∙ loses.fewer
-
-    left_is : last ≡ length web.ends
-    left_is = omega (arith, led_size, loses.same_length)
-
+  module _ (turned filled next : List ℕ) (runs : RunsOn p q m.next turned) (fill : IsFilled (q / 2) last turned filled) (next_is : next ≡ take (length filled - 2) filled) where
     filled_size : length filled ≡ 2 * last + 2
     filled_size = omega (arith, fill.same_length, runs.same_length, listed.fits, last_is)
 
@@ -283,75 +276,142 @@ module _ (m : ListedMap) (listed : IsListedMap m) (v p q : ℕ) (two : AreTwoDar
         let z_in : z < length m.next = omega (arith, e_in j j_in, listed.fits) in
         ap (dart_smoothed p q last) (next_at j j_in) ∙ ap (dart_run p q) (fill.turns j j_in) ∙ runs.turns z z_in not_q not_r
 
-    new_tail : (j : ℕ) → j < 2 * last → tail_of web.ends j ≡ new_name top v (tail_of m.web.ends (dart_smoothed p q last j))
-    new_tail j j_in = loses.tails j (omega (arith, j_in, led_size)) ∙ ap (new_name top v) (led_tail j j_in)
+    next_in : (j : ℕ) → j < 2 * last → at next j < 2 * last
+    next_in j j_in = let small = fill.below j j_in in omega (arith, next_at j j_in, small)
 
-    -- the tail is below the last node, and was the tail before
-    tail_is : (j : ℕ) → j < 2 * last → (tail_of web.ends j < top) × (node_before v top (tail_of web.ends j) ≡ tail_of m.web.ends (dart_smoothed p q last j))
-    tail_is j j_in =
-        let z = dart_smoothed p q last j in
-        let t = tail_of m.web.ends z in
-        let z_in = start_in j j_in in
-        let low = tail_in m.web.nodes m.web.ends listed.is_map.ends_in z z_in.0 in
-        let v_low = tail_in m.web.nodes m.web.ends listed.is_map.ends_in p two.first_in in
-        let not_v : t ≢ v = z_in.1 in
-        let now = new_tail j j_in in
-        elim (cases_name top v t) [
-          | inl here ↦
-              let is_v : tail_of web.ends j ≡ v = now ∙ here.1 in
-              (omega (arith, is_v, here.0, not_v, v_low, two.at_node, top_is), cond-true _ _ _ (eq-eqb _ _ is_v) ∙ sym here.0)
-          | inr other ↦
-              let is_t : tail_of web.ends j ≡ t = now ∙ other.1 in
-              (omega (arith, is_t, other.0, low, top_is), cond-false _ _ _ (ne_eqb _ _ (λ same. not_v (sym is_t ∙ same))) ∙ is_t)
-        ]
+    start_apart : (i j : ℕ) → i < 2 * last → j < 2 * last → dart_smoothed p q last i ≡ dart_smoothed p q last j → i ≡ j
+    start_apart i j i_in j_in same =
+        let half = half_reverse q in
+        let one : e i ≡ e j = omega (arith, same, cases_run p q (e i), cases_run p q (e j), half, e_other i i_in, e_other j j_in) in
+        omega (arith, one, cases_e i, cases_e j, i_in, j_in)
 
-    smoothed : IsSmoothing top m.web.ends (at m.next) p q web.ends (at next)
-    smoothed =
-        let low : (j : ℕ) → j < 2 * length web.ends → j < 2 * last = λ j j_in. omega (arith, j_in, left_is) in
-        let T : ℕ → Type 0 = λ k. (j : ℕ) → j < 2 * last → dart_smoothed p q k (at next j) ≡ at m.next (dart_smoothed p q k j) in
-        let K : ℕ → Type 0 = λ k. (j : ℕ) → j < 2 * last → node_before v top (tail_of web.ends j) ≡ tail_of m.web.ends (dart_smoothed p q k j) in
-        let N : ℕ → Type 0 = λ u. (j : ℕ) → j < 2 * last → node_before u top (tail_of web.ends j) ≡ tail_of m.web.ends (dart_smoothed p q (length web.ends) j) in
+    walks : (k i : ℕ) → i < 2 * last → (iterate (at next) k i < 2 * last) × (dart_smoothed p q last (iterate (at next) k i) ≡ iterate (at m.next) k (dart_smoothed p q last i))
+    walks zero i i_in = (i_in, refl)
+    walks (suc k) i i_in =
+        let so_far = walks k i i_in in
+        (next_in (iterate (at next) k i) so_far.0, turns (iterate (at next) k i) so_far.0 ∙ ap (at m.next) so_far.1)
+
+    -- the web is a map before v is taken away
+    led_map : IsMap led.nodes led.ends (at next)
+    led_map =
+        let low : (j : ℕ) → j < 2 * length led.ends → j < 2 * last = λ j j_in. omega (arith, j_in, led_size) in
         record {
-          first_in = two.first_in;
-          second_in = two.second_in;
-          to_second = two.to_second;
-          to_first = two.to_first;
-          smaller = two.smaller;
-          fewer = omega (arith, left_is, last_is);
-          ends_in = λ j j_in. (tail_is j (low j j_in)).0;
-          tails = λ j j_in. subst N (sym two.at_node) (subst K left_is (λ i i_in. (tail_is i i_in).1)) j (low j j_in);
-          below = λ j j_in. let small = fill.below j (low j j_in) in omega (arith, next_at j (low j j_in), small, left_is);
-          turns = λ j j_in. subst T left_is turns j (low j j_in);
+          ends_in = EndsIn_tails led.nodes led.ends (λ j j_in.
+              let node = tail_in m.web.nodes m.web.ends listed.is_map.ends_in (dart_smoothed p q last j) (start_in j (low j j_in)).0 in
+              omega (arith, led_tail j (low j j_in), node, leads.same_nodes));
+          permutes = record {
+            below = λ j j_in. omega (arith, next_in j (low j j_in), led_size);
+            apart = λ i j i_in j_in same.
+                let i_low = low i i_in in
+                let j_low = low j j_in in
+                let on : at m.next (dart_smoothed p q last i) ≡ at m.next (dart_smoothed p q last j) = sym (turns i i_low) ∙ ap (dart_smoothed p q last) same ∙ turns j j_low in
+                start_apart i j i_low j_low
+                (listed.is_map.permutes.apart (dart_smoothed p q last i) (dart_smoothed p q last j) (start_in i i_low).0 (start_in j j_low).0 on);
+          };
+          stays = λ j j_in.
+              let j_low = low j j_in in
+              led_tail (at next j) (next_in j j_low) ∙ ap (tail_of m.web.ends) (turns j j_low) ∙ listed.is_map.stays (dart_smoothed p q last j) (start_in j j_low).0
+              ∙ sym (led_tail j j_low);
+          round = λ i j i_in j_in same.
+              let i_low = low i i_in in
+              let j_low = low j j_in in
+              let walk = listed.is_map.round (dart_smoothed p q last i) (dart_smoothed p q last j) (start_in i i_low).0 (start_in j j_low).0
+              (sym (led_tail i i_low) ∙ same ∙ led_tail j j_low) in
+              let w = walks walk.0 i i_low in
+              (walk.0, start_apart (iterate (at next) walk.0 i) j w.0 j_low (w.1 ∙ walk.1));
         }
 
-    passed_map : IsMap top web.ends (at next)
-    passed_map =
-        let P : ℕ → Type 0 = λ k. IsMap k m.web.ends (at m.next) in
-        map_smoothed top p q m.web.ends web.ends (at m.next) (at next) (subst P top_is listed.is_map) smoothed
+    module _ (web : Graph) (loses : LosesNode v led web) where
+      abbrev top : ℕ
+      top = web.nodes
 
-    passed_listed : IsListedMap (map_of web next)
-    passed_listed = record {
-      fits = ap length next_is ∙ length-take-le (length filled - 2) filled (omega (arith, filled_size)) ∙ omega (arith, filled_size, left_is);
-      is_map = passed_map;
-    }
+      top_is : m.web.nodes ≡ suc top
+      top_is = sym leads.same_nodes ∙ loses.fewer
 
-    smooths : Smooths m v (map_of web next)
-    smooths = record { first = p; second = q; at_node = two.at_node; fewer = top_is; smoothed = smoothed }
+      left_is : last ≡ length web.ends
+      left_is = omega (arith, led_size, loses.same_length)
+
+      new_tail : (j : ℕ) → j < 2 * last → tail_of web.ends j ≡ new_name top v (tail_of m.web.ends (dart_smoothed p q last j))
+      new_tail j j_in = loses.tails j (omega (arith, j_in, led_size)) ∙ ap (new_name top v) (led_tail j j_in)
+
+      -- the tail is below the last node, and was the tail before
+      tail_is : (j : ℕ) → j < 2 * last → (tail_of web.ends j < top) × (node_before v top (tail_of web.ends j) ≡ tail_of m.web.ends (dart_smoothed p q last j))
+      tail_is j j_in =
+          let z = dart_smoothed p q last j in
+          let t = tail_of m.web.ends z in
+          let z_in = start_in j j_in in
+          let low = tail_in m.web.nodes m.web.ends listed.is_map.ends_in z z_in.0 in
+          let v_low = tail_in m.web.nodes m.web.ends listed.is_map.ends_in p two.first_in in
+          let not_v : t ≢ v = z_in.1 in
+          let now = new_tail j j_in in
+          elim (cases_name top v t) [
+            | inl here ↦
+                let is_v : tail_of web.ends j ≡ v = now ∙ here.1 in
+                (omega (arith, is_v, here.0, not_v, v_low, two.at_node, top_is), cond-true _ _ _ (eq-eqb _ _ is_v) ∙ sym here.0)
+            | inr other ↦
+                let is_t : tail_of web.ends j ≡ t = now ∙ other.1 in
+                (omega (arith, is_t, other.0, low, top_is), cond-false _ _ _ (ne_eqb _ _ (λ same. not_v (sym is_t ∙ same))) ∙ is_t)
+          ]
+
+      smoothed : IsSmoothing top m.web.ends (at m.next) p q web.ends (at next)
+      smoothed =
+          let low : (j : ℕ) → j < 2 * length web.ends → j < 2 * last = λ j j_in. omega (arith, j_in, left_is) in
+          let T : ℕ → Type 0 = λ k. (j : ℕ) → j < 2 * last → dart_smoothed p q k (at next j) ≡ at m.next (dart_smoothed p q k j) in
+          let K : ℕ → Type 0 = λ k. (j : ℕ) → j < 2 * last → node_before v top (tail_of web.ends j) ≡ tail_of m.web.ends (dart_smoothed p q k j) in
+          let N : ℕ → Type 0 = λ u. (j : ℕ) → j < 2 * last → node_before u top (tail_of web.ends j) ≡ tail_of m.web.ends (dart_smoothed p q (length web.ends) j) in
+          record {
+            first_in = two.first_in;
+            second_in = two.second_in;
+            to_second = two.to_second;
+            to_first = two.to_first;
+            smaller = two.smaller;
+            fewer = omega (arith, left_is, last_is);
+            ends_in = λ j j_in. (tail_is j (low j j_in)).0;
+            tails = λ j j_in. subst N (sym two.at_node) (subst K left_is (λ i i_in. (tail_is i i_in).1)) j (low j j_in);
+            below = λ j j_in. let small = fill.below j (low j j_in) in omega (arith, next_at j (low j j_in), small, left_is);
+            turns = λ j j_in. subst T left_is turns j (low j j_in);
+          }
+
+      passed_map : IsMap top web.ends (at next)
+      passed_map =
+          let P : ℕ → Type 0 = λ k. IsMap k m.web.ends (at m.next) in
+          map_smoothed top p q m.web.ends web.ends (at m.next) (at next) (subst P top_is listed.is_map) smoothed
+
+      passed_listed : IsListedMap (map_of web next)
+      passed_listed = record {
+        fits = ap length next_is ∙ length-take-le (length filled - 2) filled (omega (arith, filled_size)) ∙ omega (arith, filled_size, left_is);
+        is_map = passed_map;
+      }
+
+      smooths : Smooths m v (map_of web next)
+      smooths = record { first = p; second = q; at_node = two.at_node; fewer = top_is; smoothed = smoothed }
 
 -- v can be taken away once its darts are gone
-pub record IsLeftAlone (v : ℕ) (led : Graph) : Type 0 where
+pub record IsLeftAlone (v : ℕ) (led : Graph) (next : List ℕ) : Type 0 where
   pub node : v < led.nodes
   pub lone : (d : ℕ) → d < 2 * length led.ends → tail_of led.ends d ≢ v
+  pub map : IsMap led.nodes led.ends (at next)
 
-pub is_left_alone : (old now : ListedMap) → old ≡ now → IsListedMap old → (v p q : ℕ) → AreTwoDarts now v p q → (led : Graph) → LeadsOn p q old.web led → IsLeftAlone v led
-is_left_alone old now view listed v p q two led leads =
+pub is_left_alone : (old now : ListedMap) → old ≡ now → IsListedMap old → (v p q : ℕ) → AreTwoDarts now v p q → (count : ℕ) →
+    (turned filled next : List ℕ) → RunsOn p q old.next turned → count ≡ length turned → IsFilled (q / 2) (count / 2 - 1) turned filled → next ≡ take (length filled - 2) filled →
+    (led : Graph) → LeadsOn p q old.web led → IsLeftAlone v led next
+is_left_alone old now view listed v p q two count turned filled next runs count_is fill next_is led leads =
     let A : ListedMap → Type 0 = λ m. AreTwoDarts m v p q in
     let two_old = subst A (sym view) two in
     let low = tail_in old.web.nodes old.web.ends listed.is_map.ends_in p two_old.first_in in
+    let last_is : suc (count / 2 - 1) ≡ length old.web.ends = omega (arith, count_is, runs.same_length, listed.fits, two_old.second_in) in
     record {
       node = omega (arith, low, two_old.at_node, leads.same_nodes);
-      lone = left_alone old listed v p q two_old (length led.ends) (sym leads.fewer) led leads;
+      lone = left_alone old listed v p q two_old (count / 2 - 1) last_is led leads;
+      map = led_map old listed v p q two_old (count / 2 - 1) last_is led leads turned filled next runs fill next_is;
     }
+
+-- v has no other darts
+pub only_two : (old now : ListedMap) → old ≡ now → IsListedMap old → (v p q : ℕ) → AreTwoDarts now v p q → (d : ℕ) → IsDartOf old.web.ends (tail_of old.web.ends p) d → (d ≡ p) ⊎ (d ≡ q)
+only_two old now view listed v p q two d is =
+    let A : ListedMap → Type 0 = λ m. AreTwoDarts m v p q in
+    let two_old = subst A (sym view) two in
+    one_of_two old listed v p q two_old d is.0 (is.1 ∙ two_old.at_node)
 
 -- what pass_node leaves of the map now
 pub record NodePassed (now : ListedMap) (v : ℕ) (new : ListedMap) : Type 0 where
@@ -367,6 +427,6 @@ node_passed old now view listed v p q two count turned filled next runs count_is
     let two_old = subst A (sym view) two in
     let last_is : suc (count / 2 - 1) ≡ length old.web.ends = omega (arith, count_is, runs.same_length, listed.fits, two_old.second_in) in
     subst P view record {
-      listed = passed_listed old listed v p q two_old (count / 2 - 1) last_is led leads web loses turned filled next runs fill next_is;
-      smooths = smooths old listed v p q two_old (count / 2 - 1) last_is led leads web loses turned filled next runs fill next_is;
+      listed = passed_listed old listed v p q two_old (count / 2 - 1) last_is led leads turned filled next runs fill next_is web loses;
+      smooths = smooths old listed v p q two_old (count / 2 - 1) last_is led leads turned filled next runs fill next_is web loses;
     }

@@ -1,14 +1,16 @@
 -- What remove_edge leaves.
-use Rattle.std.proofs.Common.{◌≡◌, ℕ, suc, ◌+◌, ◌-◌, ◌*◌, ◌<◌, cond, eqb, List, length, sym, ◌∙◌, ap, subst, arith, take}
+use Rattle.std.proofs.Common.{◌≡◌, ◌≢◌, ℕ, suc, ◌+◌, ◌-◌, ◌*◌, ◌/◌, ◌<◌, inl, inr, cond, eqb, List, length, refl, sym, ◌∙◌, ap, subst, arith, take}
 use Rattle.std.specs.List.{swap_remove}
+use Rattle.std.proofs.lemmas.Bool.{cases_eq}
 use Rattle.std.proofs.lemmas.List.{get_or-take, length-take-le}
 use Rattle.xn_model.specs.Graph.{Graph, ends_at}
 use Rattle.xn_model.specs.Lists.{at}
-use Rattle.xn_model.specs.Map.{IsMap}
-use Rattle.xn_model.specs.Permutation.{Permutes, without}
+use Rattle.xn_model.specs.Map.{IsMap, reverse_of, tail_of}
+use Rattle.xn_model.specs.Permutation.{Permutes, Reaches, without}
 use Rattle.xn_graph.specs.Limits.{graph_of}
 use Rattle.xn_genus.specs.Deletion.{IsDeletion, dart_before}
 use Rattle.xn_genus.specs.Live.{without_segment}
+use Rattle.xn_map.specs.Anchored.{IsDartOf, OutlastsAt}
 use Rattle.xn_map.specs.Changes.{Deletes, IsFilled, IsOut, TakesOut}
 use Rattle.xn_map.specs.Listed.{IsListedMap, ListedMap, map_of}
 use Rattle.xn_ring.proofs.Agreeing.{Permutes-agrees}
@@ -16,7 +18,9 @@ use Rattle.xn_ring.proofs.Without.{Permutes-without, without-at, without-other}
 use Rattle.xn_genus.proofs.Delete.{map_left}
 use Rattle.xn_graph.proofs.Ends.{ends_at-swap_remove, length-swap_remove}
 use Rattle.xn_surgery.proofs.Insert.{without-agree}
+use Rattle.xn_genus.proofs.Compress.{half_reverse}
 use Rattle.xn_map.proofs.Fill.{dart_before_in}
+use Rattle.xn_map.proofs.Passing.{reverse_other, ring_of_two, sides}
 
 module _ (m : ListedMap) (listed : IsListedMap m) (s last : ℕ) (s_in : s < length m.web.ends) (last_is : suc last ≡ length m.web.ends)
     (once twice : List ℕ) (one : TakesOut (2 * s) m.next once) (two : TakesOut (2 * s + 1) once twice) where
@@ -92,3 +96,41 @@ module _ (m : ListedMap) (listed : IsListedMap m) (s last : ℕ) (s_in : s < len
           fits = ap length next_is ∙ length-take-le (length filled - 2) filled (omega (arith, filled_size)) ∙ omega (arith, filled_size, left_is);
           is_map = subst P (sym (ap (λ w. w.nodes) web_is)) (map_left m.web.nodes s m.web.ends web.ends (at m.next) (at next) listed.is_map deletion);
         }
+
+-- the dart after d, or after its reverse, outlasts the segment of d where any dart does
+module _ (m : ListedMap) (listed : IsListedMap m) (d : ℕ) (d_in : d < length m.next) where
+  d_low : d < 2 * length m.web.ends
+  d_low = omega (arith, d_in, listed.fits)
+
+  mates : (x : ℕ) → IsDartOf m.web.ends (tail_of m.web.ends d) x → Reaches (at m.next) d x
+  mates x is = listed.is_map.round d x d_low is.0 (sym is.1)
+
+  pub outlasts_near : at m.next d ≢ reverse_of d → OutlastsAt m.web.ends (d / 2) d (at m.next d)
+  outlasts_near other = elim (cases_eq (at m.next d / 2) (d / 2)) [
+    | inl half ↦ elim (sides d (at m.next d) half) [
+      | inl alone ↦ inr (λ x is.
+          let walk = mates x is in
+          elim (ring_of_two (at m.next) d d alone alone walk.0) [ inl one ↦ ap (λ z. z / 2) (sym walk.1 ∙ one) | inr two ↦ ap (λ z. z / 2) (sym walk.1 ∙ two) ])
+      | inr turned ↦ absurd (other turned)
+    ]
+    | inr away ↦ inl ((listed.is_map.permutes.below d d_low, listed.is_map.stays d d_low), away)
+  ]
+
+  pub outlasts_far : at m.next d ≡ reverse_of d → OutlastsAt m.web.ends (d / 2) d (at m.next (at m.next d))
+  outlasts_far turned =
+      let f = at m.next in
+      let next_in = listed.is_map.permutes.below d d_low in
+      elim (cases_eq (f (f d) / 2) (d / 2)) [
+        | inl half ↦ elim (sides d (f (f d)) half) [
+          | inl back ↦ inr (λ x is.
+              let walk = mates x is in
+              elim (ring_of_two f d (f d) refl back walk.0) [
+                | inl one ↦ ap (λ z. z / 2) (sym walk.1 ∙ one)
+                | inr two ↦ ap (λ z. z / 2) (sym walk.1 ∙ two ∙ turned) ∙ half_reverse d
+              ])
+          | inr twice ↦
+              let same : d ≡ f d = listed.is_map.permutes.apart d (f d) d_low next_in (turned ∙ sym twice) in
+              absurd (reverse_other d (sym turned ∙ sym same))
+        ]
+        | inr away ↦ inl ((listed.is_map.permutes.below (f d) next_in, listed.is_map.stays (f d) next_in ∙ listed.is_map.stays d d_low), away)
+      ]

@@ -1,34 +1,47 @@
 -- What it leaves to put a new node on a segment.
-use Rattle.std.proofs.Common.{◌≡◌, ◌≢◌, ℕ, suc, ◌+◌, ◌*◌, ◌<◌, inl, inr, List, [], ◌∷◌, ◌++◌, length, set, refl, sym, ◌∙◌, ap, subst, arith, length-append}
+use Rattle.std.proofs.Common.{◌≡◌, ◌≢◌, ℕ, suc, ◌+◌, ◌*◌, ◌/◌, ◌%◌, ◌<◌, inl, inr, List, [], ◌∷◌, ◌++◌, length, set, refl, sym, ◌∙◌, ap, subst, arith, length-append}
 use Rattle.std.specs.List.{range_with_len}
 use Rattle.std.proofs.lemmas.Bool.{cases_eq, cond-true, cond-false, eq-eqb, ne_eqb}
 use Rattle.std.proofs.lemmas.List.{get_or_append_left, get_or_at, get_or-set_other, get_or-set_same, length-set, set-append_left}
-use Rattle.std.proofs.Math.Seq.{set-append_seam}
 use Rattle.xn_model.specs.Graph.{Graph, ends_at}
 use Rattle.xn_model.specs.Lists.{at}
 use Rattle.xn_model.specs.Map.{IsFlat, IsMap}
 use Rattle.xn_model.specs.Permutation.{IsSplice, Permutes}
 use Rattle.xn_graph.specs.Limits.{graph_of}
 use Rattle.xn_surgery.specs.Subdivision.{IsSubdivision, dart_now}
+use Rattle.xn_map.specs.Anchored.{ends_moved}
 use Rattle.xn_map.specs.Changes.{StaysFlat, TakesPlace, new_name}
 use Rattle.xn_map.specs.Dividing.{Subdivides, divided}
 use Rattle.xn_map.specs.Listed.{IsListedMap, ListedMap, map_of}
 use Rattle.xn_ring.proofs.Inverse.{at-append_range, length-append_range}
 use Rattle.xn_surgery.proofs.Subdivide.{components_more, faces_more, map_more}
 
--- the entry of s and the one that was appended are written
-two_writes : (ends : List (ℕ × ℕ)) (s : ℕ) (p q r : ℕ × ℕ) → s < length ends → set (set (ends ++ q ∷ []) s p) (length ends) r ≡ set ends s p ++ r ∷ []
-two_writes ends s p q r s_in =
-    ap (λ xs. set xs (length ends) r) (set-append_left ends (q ∷ []) s p s_in)
-    ∙ ap (λ k. set (set ends s p ++ q ∷ []) k r) (sym (length-set ends s p)) ∙ set-append_seam (set ends s p) q [] r
-
--- a segment and a node more, and the ends of two segments written
-pub web_divided : (web : Graph) (s last u v w : ℕ) (longer wider first second : Graph) → s < length web.ends → u ≡ (ends_at web.ends s).0 → v ≡ (ends_at web.ends s).1 →
-    last ≡ length web.ends → w ≡ web.nodes → longer ≡ graph_of web.nodes (web.ends ++ (u, v) ∷ []) → wider ≡ graph_of (longer.nodes + 1) longer.ends →
-    first ≡ graph_of wider.nodes (set wider.ends s (u, w)) → second ≡ graph_of first.nodes (set first.ends last (w, v)) → second ≡ divided web s
-web_divided web s last u v w longer wider first second s_in u_is v_is last_is w_is longer_is wider_is first_is second_is =
-    rw (second_is, first_is, wider_is, longer_is, last_is, w_is, u_is, v_is)
-    (let p = ends_at web.ends s in ap (graph_of (web.nodes + 1)) (two_writes web.ends s (p.0, web.nodes) (p.0, p.1) (web.nodes, p.1) s_in))
+-- a node and a segment more, and the second end of s is moved
+pub web_divided : (web : Graph) (s v w : ℕ) (wider longer new : Graph) → s < length web.ends → v ≡ (ends_at web.ends s).1 → w ≡ web.nodes →
+    wider ≡ graph_of (web.nodes + 1) web.ends → longer ≡ graph_of wider.nodes (wider.ends ++ (w, v) ∷ []) →
+    new ≡ graph_of longer.nodes (set longer.ends ((2 * s + 1) / 2) (ends_moved (2 * s + 1) w (ends_at longer.ends ((2 * s + 1) / 2)))) → new ≡ divided web s
+web_divided web s v w wider longer new s_in v_is w_is wider_is longer_is new_is =
+    let half : (2 * s + 1) / 2 ≡ s = omega arith in
+    let odd : (2 * s + 1) % 2 ≢ 0 = λ h. omega (arith, h) in
+    let moved : ends_moved (2 * s + 1) w (ends_at longer.ends s) ≡ ((ends_at longer.ends s).0, w) = cond-false _ _ _ (ne_eqb _ _ odd) in
+    let P : ℕ → Type 0 = λ k. new ≡ graph_of longer.nodes (set longer.ends k (ends_moved (2 * s + 1) w (ends_at longer.ends k))) in
+    let Q : ℕ × ℕ → Type 0 = λ p. new ≡ graph_of longer.nodes (set longer.ends s p) in
+    let at_s : Q ((ends_at longer.ends s).0, w) = subst Q moved (subst P half new_is) in
+    let q : ℕ × ℕ = (web.nodes, (ends_at web.ends s).1) in
+    let wide : wider.nodes ≡ web.nodes + 1 = ap (λ g. g.nodes) wider_is in
+    let pair : (w, v) ≡ q = rw (w_is, v_is) refl in
+    let long : longer ≡ graph_of (web.nodes + 1) (web.ends ++ q ∷ []) =
+    longer_is ∙ ap (λ k. graph_of k (wider.ends ++ (w, v) ∷ [])) wide ∙ ap (λ g. graph_of (web.nodes + 1) (g.ends ++ (w, v) ∷ [])) wider_is
+    ∙ ap (λ p. graph_of (web.nodes + 1) (web.ends ++ p ∷ [])) pair in
+    let first : new ≡ graph_of (web.nodes + 1) (set (web.ends ++ q ∷ []) s ((ends_at (web.ends ++ q ∷ []) s).0, w)) =
+    at_s ∙ ap (λ g. graph_of g.nodes (set g.ends s ((ends_at g.ends s).0, w))) long in
+    let written : List (ℕ × ℕ) = set (web.ends ++ q ∷ []) s ((ends_at web.ends s).0, web.nodes) in
+    let second : graph_of (web.nodes + 1) (set (web.ends ++ q ∷ []) s ((ends_at (web.ends ++ q ∷ []) s).0, w)) ≡ graph_of (web.nodes + 1) written =
+    ap (λ p. graph_of (web.nodes + 1) (set (web.ends ++ q ∷ []) s (p.0, w))) (get_or_append_left web.ends (q ∷ []) (0, 0) s s_in)
+    ∙ ap (λ k. graph_of (web.nodes + 1) (set (web.ends ++ q ∷ []) s ((ends_at web.ends s).0, k))) w_is in
+    let third : graph_of (web.nodes + 1) written ≡ divided web s =
+    ap (graph_of (web.nodes + 1)) (set-append_left web.ends (q ∷ []) s ((ends_at web.ends s).0, web.nodes) s_in) in
+    first ∙ (second ∙ third)
 
 -- darts that are added, each alone, leave a permutation
 pub grown_permutes : (next grown : List ℕ) → grown ≡ next ++ range_with_len (length next) 2 → Permutes (length next) (at next) → Permutes (length grown) (at grown)

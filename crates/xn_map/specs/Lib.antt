@@ -1,3 +1,4 @@
+pub mod Anchored
 pub mod Changes
 pub mod Corners
 pub mod Cutting

@@ -1,6 +1,7 @@
 //! Maps: webs with a rotation at each node, their faces and components, and Euler's counts.
 #![tactic(auto)]
 
+mod anchored;
 mod components;
 mod corners;
 mod darts;

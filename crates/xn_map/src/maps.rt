@@ -1,7 +1,8 @@
-ghost use Rattle.std.specs.Prelude.{◌≡◌, ◌≢◌, ℕ, ◌+◌, ◌*◌, ◌^◌, ◌<◌, ◌≤◌, ◌↔◌, IfOk, IsErrOf, IsTrue, length};
+ghost use Rattle.std.specs.Prelude.{◌≡◌, ◌≢◌, ℕ, ◌+◌, ◌*◌, ◌^◌, ◌<◌, ◌≤◌, ◌↔◌, IfNone, IfOk, IfSome, IsErrOf, IsTrue, length};
 ghost use Rattle.xn_model.specs.Lists.{at};
 ghost use Rattle.xn_model.specs.Map.{Joined, tail_of};
 ghost use Rattle.xn_graph.specs.Counts.{euler_of};
+ghost use Rattle.xn_map.specs.Anchored.{HasNoDart, IsDartOf};
 ghost use Rattle.xn_map.specs.Corners.{InOneFace, IsCorner};
 ghost use Rattle.xn_map.specs.Listed.{IsFlatListed, IsListedMap, components_of, faces_of, map_of, sum_of};
 ghost use Rattle.xn_map.specs.Rotation.{IsRotationFlaw};
@@ -12,6 +13,7 @@ mod dividing;
 mod passing;
 mod splitting;
 
+use crate::anchored::Anchored;
 use crate::components::{component_count, in_one_component};
 use crate::corners::Corner;
 use crate::darts;
@@ -54,7 +56,7 @@ impl From<AllocError> for MapErr {
 /// the list of the successors.
 #[derive(Drop)]
 pub struct Map {
-    web: Web,
+    web: Anchored,
     rings: Rings,
 }
 
@@ -84,6 +86,7 @@ impl Map {
             return Err(MapErr::Rotation(d));
         }
         let rings = rings_of(alloc, next)?;
+        let web = Anchored::make(alloc, web)?;
         Ok(Map { web, rings })
     }
 
@@ -92,7 +95,7 @@ impl Map {
         ensures value { result.now ≡ self.now.web }
         ensures is_map { IsListedMap self.now }
     {
-        &self.web
+        self.web.web()
     }
 
     /// The next dart round the node.
@@ -110,7 +113,7 @@ impl Map {
         ensures value { result ≡ tail_of self.now.web.ends d }
         ensures node { result < self.now.web.nodes }
     {
-        darts::tail(&self.web, d)
+        darts::tail(self.web.web(), d)
     }
 
     /// The number of faces: of the cycles of the walk from a dart to the successor of its reverse,
@@ -120,7 +123,7 @@ impl Map {
         ensures few { IfOk result (λ f. f ≤ 3 * 2 ^ 30) }
     {
         let cycles = face_cycle_count(alloc, &self.rings)?;
-        let lone = lone_count(alloc, &self.web)?;
+        let lone = lone_count(alloc, self.web.web())?;
         Ok(cycles + lone)
     }
 
@@ -129,7 +132,16 @@ impl Map {
         ensures count { IfOk result (λ c. c ≡ components_of self.now) }
         ensures few { IfOk result (λ c. c ≤ 2 ^ 30) }
     {
-        component_count(alloc, &self.web)
+        component_count(alloc, self.web.web())
+    }
+
+    /// A dart of a node, if it has one.
+    pub fn dart_of(&self, v: u32) -> Option<u32>
+        ensures map { IsListedMap self.now }
+        ensures some { IfSome result (λ d. IsDartOf self.now.web.ends v d) }
+        ensures none { IfNone result (HasNoDart self.now.web.ends v) }
+    {
+        self.web.dart_of(v)
     }
 
     /// The numbers of nodes, segments, faces and components (Euler).
@@ -161,7 +173,7 @@ impl Map {
         requires v_in { v < self.now.web.nodes }
         ensures { IfOk result (λ joined. IsTrue joined ↔ Joined self.now.web.ends u v) }
     {
-        in_one_component(alloc, &self.web, u, v)
+        in_one_component(alloc, self.web.web(), u, v)
     }
 
     /// Whether two corners lie in one face. It takes no memory.

@@ -1,9 +1,10 @@
 // Calls that change a map.
-ghost use Rattle.std.specs.Prelude.{◌≡◌, ◌≢◌, ◌+◌, ◌*◌, ◌^◌, ◌<◌, ◌≤◌, ◌⊎◌, IfOk, OnErr, OnOk, length};
+ghost use Rattle.std.specs.Prelude.{◌≡◌, ◌≢◌, ◌/◌, ◌+◌, ◌*◌, ◌^◌, ◌<◌, ◌≤◌, ◌⊎◌, IfOk, OnErr, OnOk, length};
 ghost use Rattle.xn_model.specs.Lists.{at};
 ghost use Rattle.xn_model.specs.Map.{Joined};
 ghost use Rattle.xn_model.specs.Permutation.{Permutes};
 ghost use Rattle.xn_graph.specs.Limits.{graph_of};
+ghost use Rattle.xn_map.specs.Anchored.{OutlastsAt};
 ghost use Rattle.xn_map.specs.Changes.{Deletes, Inserts, IsFilled, IsFreeCorner, IsOut, Stands, StaysFlat, TakesOut, TakesPlace, node_of};
 ghost use Rattle.xn_map.specs.Corners.{InOneFace, IsCorner};
 ghost use Rattle.xn_map.specs.Listed.{IsListedMap, map_of};
@@ -14,7 +15,7 @@ use std::alloc::AllocError;
 use xn_ring::Rings;
 
 impl Map {
-    /// Adds a node without darts, and answers it: the last. A flat map stays flat. It takes no memory.
+    /// Adds a node without darts, and answers it: the last. A flat map stays flat. After want of memory the map is as before.
     pub fn add_node(&mut self) -> Result<u32, AllocError>
         requires few { self.old.web.nodes < 2 ^ 30 }
         ensures node { IfOk result (λ v. v ≡ self.old.web.nodes) }
@@ -22,8 +23,7 @@ impl Map {
         ensures err { OnErr result (self.new ≡ self.old) }
         ensures flat { StaysFlat self.old self.new }
     {
-        let v = self.web.nodes();
-        self.web.add_node();
+        let v = self.web.add_node()?;
         Ok(v)
     }
 
@@ -64,11 +64,25 @@ impl Map {
         ensures deleted { Deletes self.old s self.new }
     {
         let last = self.web.segments() - 1;
+        let first = self.outlasting(2 * s);
+        let second = self.outlasting(2 * s + 1);
         take_out(&mut self.rings, 2 * s);
         take_out(&mut self.rings, 2 * s + 1);
         fill(&mut self.rings, s, last);
         self.rings.shrink(2);
-        self.web.remove_segment(s);
+        self.web.remove_segment(s, first, second);
+    }
+
+    // A dart of another segment at the node of a dart, if there is one.
+    fn outlasting(&self, d: u32) -> u32
+        requires { d < length self.now.next }
+        ensures { OutlastsAt self.now.web.ends (d / 2) d result }
+    {
+        let after = self.rings.next(d);
+        if after == d ^ 1 {
+            return self.rings.next(after);
+        }
+        after
     }
 
     // The node of a corner.

@@ -3,10 +3,10 @@ ghost use Rattle.std.specs.Prelude.{◌≡◌, ◌+◌, ◌^◌, ◌<◌, IfOk, 
 ghost use Rattle.xn_map.specs.Changes.{StaysFlat};
 ghost use Rattle.xn_map.specs.Dividing.{Subdivides, divided};
 
+use crate::anchored::Anchored;
 use crate::maps::Map;
 use crate::maps::changes::take_place;
 use std::alloc::AllocError;
-use xn_graph::Web;
 
 impl Map {
     /// Puts a new node on a segment, and answers it: the last.
@@ -40,7 +40,7 @@ impl Map {
 }
 
 // Lets a segment lead to a new node, and a further one from there to where it led. Answers the node.
-fn divide(web: &mut Web, s: u32) -> Result<u32, AllocError>
+fn divide(web: &mut Anchored, s: u32) -> Result<u32, AllocError>
     requires segment { s < length web.old.ends }
     requires few_nodes { web.old.nodes < 2 ^ 30 }
     requires few_segments { length web.old.ends < 2 ^ 30 }
@@ -48,12 +48,17 @@ fn divide(web: &mut Web, s: u32) -> Result<u32, AllocError>
     ensures ok { OnOk result (web.new ≡ divided web.old s) }
     ensures err { OnErr result (web.new ≡ web.old) }
 {
-    let (u, v) = web.end(s);
+    let (_, v) = web.end(s);
     let last = web.segments();
-    let w = web.nodes();
-    web.add_segment(u, v)?;
-    web.add_node();
-    web.set_end(s, u, w);
-    web.set_end(last, w, v);
-    Ok(w)
+    let w = web.add_node()?;
+    match web.add_segment(w, v) {
+        Ok(()) => {
+            web.move_dart(2 * s + 1, w, 2 * last + 1);
+            Ok(w)
+        }
+        Err(error) => {
+            web.remove_node();
+            Err(error)
+        }
+    }
 }

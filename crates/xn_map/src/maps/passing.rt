@@ -1,16 +1,17 @@
 // A node with two darts is passed over: its two segments become one.
-ghost use Rattle.std.specs.Prelude.{◌≡◌, ◌≢◌, ℕ, ◌*◌, ◌/◌, ◌<◌, length};
+ghost use Rattle.std.specs.Prelude.{◌≡◌, ◌≢◌, ℕ, ◌*◌, ◌/◌, ◌<◌, ◌⊎◌, length};
 ghost use Rattle.xn_model.specs.Lists.{at};
-ghost use Rattle.xn_model.specs.Map.{reverse_of, tail_of};
+ghost use Rattle.xn_model.specs.Map.{IsMap, reverse_of, tail_of};
 ghost use Rattle.xn_model.specs.Permutation.{Permutes};
+ghost use Rattle.xn_map.specs.Anchored.{HasNoDart, IsDartOf};
 ghost use Rattle.xn_map.specs.Listed.{IsListedMap};
 ghost use Rattle.xn_map.specs.Passing.{AreTwoDarts, HasTwoDarts, LeadsOn, LosesNode, MovesNode, RunsOn, Smooths};
 
+use crate::anchored::Anchored;
 use crate::darts;
 use crate::maps::Map;
 use crate::maps::changes::{fill, take_out, take_place};
-use crate::maps::splitting::move_dart;
-use xn_graph::Web;
+use crate::maps::splitting::move_arc;
 use xn_ring::Rings;
 
 impl Map {
@@ -28,7 +29,7 @@ impl Map {
         fill(&mut self.rings, q / 2, last);
         self.rings.shrink(2);
         lead_on(&mut self.web, p, q);
-        lose_node(&mut self.web, v);
+        lose_node(&mut self.web, &self.rings, v);
     }
 
     // The two darts of a node, that of the smaller segment first.
@@ -36,24 +37,12 @@ impl Map {
         requires { HasTwoDarts self.now v }
         ensures { AreTwoDarts self.now v result.0 result.1 }
     {
-        let d = dart_at(&self.web, v);
+        let Some(d) = self.web.dart_of(v) else {
+            unreachable!()
+        };
         let e = self.rings.next(d);
         if d < e { (d, e) } else { (e, d) }
     }
-}
-
-// The least dart of a node that has one.
-fn dart_at(web: &Web, v: u32) -> u32
-    requires { (d : ℕ) × (d < 2 * length web.now.ends) × (tail_of web.now.ends d ≡ v) }
-    ensures dart { result < 2 * length web.now.ends }
-    ensures node { tail_of web.now.ends result ≡ v }
-{
-    for d in 0..2 * web.segments() {
-        if darts::tail(web, d) == v {
-            return d;
-        }
-    }
-    unreachable!()
 }
 
 // Puts p in the place of the reverse of q. There is no third dart in their ring.
@@ -70,35 +59,41 @@ fn run_on(rings: &mut Rings, p: u32, q: u32)
     take_place(rings, q ^ 1, p);
 }
 
-// Gives the segment of p the far end of the segment of q, and takes that segment out.
-fn lead_on(web: &mut Web, p: u32, q: u32)
-    requires { (p < 2 * length web.old.ends) × (q < 2 * length web.old.ends) × (p / 2 ≢ q / 2) }
+// Gives the segment of p the far end of the segment of q, and takes that segment out. The two are the darts of one node.
+fn lead_on(web: &mut Anchored, p: u32, q: u32)
+    requires darts { (p < 2 * length web.old.ends) × (q < 2 * length web.old.ends) }
+    requires segments { p / 2 ≢ q / 2 }
+    requires one_node { tail_of web.old.ends q ≡ tail_of web.old.ends p }
+    requires only { (d : ℕ) → IsDartOf web.old.ends (tail_of web.old.ends p) d → (d ≡ p) ⊎ (d ≡ q) }
     ensures { LeadsOn p q web.old web.new }
 {
-    let far = darts::tail(web, q ^ 1);
-    move_dart(web, p, far);
-    web.remove_segment(q / 2);
+    let far = darts::tail(web.web(), q ^ 1);
+    web.move_dart(p, far, q);
+    web.remove_segment(q / 2, p, p);
 }
 
 // Takes away a node without darts: the last one takes its number.
-fn lose_node(web: &mut Web, v: u32)
+fn lose_node(web: &mut Anchored, rings: &Rings, v: u32)
     requires node { v < web.old.nodes }
-    requires lone { (d : ℕ) → d < 2 * length web.old.ends → tail_of web.old.ends d ≢ v }
+    requires lone { HasNoDart web.old.ends v }
+    requires darts { length rings.now ≡ 2 * length web.old.ends }
+    requires map { IsMap web.old.nodes web.old.ends (at rings.now) }
     ensures { LosesNode v web.old web.new }
 {
     let last = web.nodes() - 1;
-    move_node(web, last, v);
+    move_node(web, rings, last, v);
     web.remove_node();
 }
 
 // Brings the darts of u to v.
-fn move_node(web: &mut Web, u: u32, v: u32)
-    requires { v < web.old.nodes }
+fn move_node(web: &mut Anchored, rings: &Rings, u: u32, v: u32)
+    requires nodes { (u < web.old.nodes) × (v < web.old.nodes) }
+    requires darts { length rings.now ≡ 2 * length web.old.ends }
+    requires map { IsMap web.old.nodes web.old.ends (at rings.now) }
     ensures { MovesNode u v web.old web.new }
 {
-    for d in 0..2 * web.segments() {
-        if darts::tail(web, d) == u {
-            move_dart(web, d, v);
-        }
+    if let Some(a) = web.dart_of(u) {
+        move_arc(web, rings, rings.next(a), a, v);
+        web.move_dart(a, v, a);
     }
 }

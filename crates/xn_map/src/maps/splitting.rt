@@ -1,20 +1,20 @@
 // A node that is split.
-ghost use Rattle.std.specs.Prelude.{◌≡◌, ◌≢◌, ◌*◌, ◌^◌, ◌<◌, IfOk, OnErr, OnOk, length};
+ghost use Rattle.std.specs.Prelude.{◌≡◌, ◌≢◌, ℕ, ◌*◌, ◌^◌, ◌<◌, IfOk, OnErr, OnOk, length};
 ghost use Rattle.xn_model.specs.Lists.{at};
 ghost use Rattle.xn_model.specs.Map.{tail_of};
 ghost use Rattle.xn_model.specs.Permutation.{Permutes, Reaches};
-ghost use Rattle.xn_map.specs.Cutting.{MovesArc, MovesDart, Splits};
+ghost use Rattle.xn_map.specs.Cutting.{MovesArc, Splits};
 ghost use Rattle.xn_map.specs.Listed.{IsListedMap};
 
+use crate::anchored::Anchored;
 use crate::maps::Map;
 use std::alloc::AllocError;
-use xn_graph::Web;
 use xn_ring::Rings;
 
 impl Map {
     /// Moves a dart and those that follow it, up to the one before another dart b of its node, to a new node, and answers
-    /// that: the last. On both sides the darts keep their cyclic order. It takes no memory, and as long as there are darts
-    /// to move.
+    /// that: the last. On both sides the darts keep their cyclic order. It takes as long as there are darts to move. After
+    /// want of memory the map is as before.
     pub fn cut_node(&mut self, a: u32, b: u32) -> Result<u32, AllocError>
         requires few { self.old.web.nodes < 2 ^ 30 }
         requires a_in { a < length self.old.next }
@@ -26,8 +26,7 @@ impl Map {
         ensures ok { OnOk result (Splits self.old a b self.new) }
         ensures err { OnErr result (self.new ≡ self.old) }
     {
-        let v = self.web.nodes();
-        self.web.add_node();
+        let v = self.web.add_node()?;
         move_arc(&mut self.web, &self.rings, a, b, v);
         let before_a = self.rings.prev(a);
         let before_b = self.rings.prev(b);
@@ -36,32 +35,19 @@ impl Map {
     }
 }
 
-// Moves the darts from a up to the one before b to a node.
-fn move_arc(web: &mut Web, rings: &Rings, a: u32, b: u32, v: u32)
+/// Moves the darts from a up to the one before b to a node.
+pub fn move_arc(web: &mut Anchored, rings: &Rings, a: u32, b: u32, v: u32)
     requires darts { length rings.now ≡ 2 * length web.old.ends }
     requires a_in { a < length rings.now }
     requires comes { Reaches (at rings.now) a b }
     requires permutes { Permutes (length rings.now) (at rings.now) }
+    requires stays { (d : ℕ) → d < length rings.now → tail_of web.old.ends (at rings.now d) ≡ tail_of web.old.ends d }
     requires node { v < web.old.nodes }
     ensures { MovesArc (at rings.now) a b v web.old web.new }
 {
     let mut d = a;
     while d != b {
-        move_dart(web, d, v);
+        web.move_dart(d, v, b);
         d = rings.next(d);
-    }
-}
-
-/// Moves a dart to a node.
-pub fn move_dart(web: &mut Web, d: u32, v: u32)
-    requires dart { d < 2 * length web.old.ends }
-    requires node { v < web.old.nodes }
-    ensures { MovesDart d v web.old web.new }
-{
-    let (first, second) = web.end(d / 2);
-    if d % 2 == 0 {
-        web.set_end(d / 2, v, second);
-    } else {
-        web.set_end(d / 2, first, v);
     }
 }

@@ -9,4 +9,4 @@ returns c =
     let u_in : c.args.u < web.nodes = omega (arith, c.requires.u_in, nodes) in
     let v_in : c.args.v < web.nodes = omega (arith, c.requires.v_in, nodes) in
     rw (← c.self.view_is)
-    (joined_by_labels web.nodes web.ends c.args.u c.args.v c.self.invariant.is_map.ends_in u_in v_in c.in_one_component.result c.in_one_component.ensures)
+    (joined_by_labels web.nodes web.ends c.args.u c.args.v c.self.invariant.is_map.ends_in u_in v_in c.in_one_component.result (rw c.web.ensures at c.in_one_component.ensures))

@@ -1,4 +1,5 @@
-use Rattle.std.proofs.Common.{◌≡◌, ◌-◌, ◌<◌, suc, ap, arith, length, subst}
+use Rattle.std.proofs.Common.{◌≡◌, ◌+◌, ◌-◌, ◌*◌, ◌/◌, ◌<◌, List, ℕ, suc, ap, arith, length, subst, sym}
+use Rattle.xn_map.specs.Anchored.{OutlastsAt}
 use Rattle.xn_map.specs.Changes.{Deletes}
 use Rattle.xn_map.specs.Listed.{ListedMap, map_of}
 use Rattle.xn_map.proofs.Removed.{deletes, is_out, removed_listed}
@@ -28,3 +29,19 @@ returns-clause-deleted c =
     subst P c.self.view_is
     (deletes m c.self.invariant c.args.s (c.segments-last.result - 1) s_in last_is c.take_out.new.rings c.take_out-2.new.rings c.take_out.ensures c.take_out-2.ensures
     c.fill.new.rings c.shrink.new.self c.fill.ensures c.shrink.ensures c.remove_segment.new.self c.remove_segment.ensures)
+
+pub remove_segment-requires-clause-first : goal.remove_segment-requires-clause-first
+remove_segment-requires-clause-first c =
+    let ends = ap (λ m. m.web.ends) c.self.view_is in
+    let half : (2 * c.args.s) / 2 ≡ c.args.s = omega arith in
+    let P : List (ℕ × ℕ) → Type 0 = λ ends. OutlastsAt ends c.args.s (2 * c.args.s) c.outlasting-first.result in
+    let Q : ℕ → Type 0 = λ k. OutlastsAt c.args.self.now.web.ends k (2 * c.args.s) c.outlasting-first.result in
+    subst P (sym ends) (subst Q half c.outlasting-first.ensures)
+
+pub remove_segment-requires-clause-second : goal.remove_segment-requires-clause-second
+remove_segment-requires-clause-second c =
+    let ends = ap (λ m. m.web.ends) c.self.view_is in
+    let half : (2 * c.args.s + 1) / 2 ≡ c.args.s = omega arith in
+    let P : List (ℕ × ℕ) → Type 0 = λ ends. OutlastsAt ends c.args.s (2 * c.args.s + 1) c.outlasting-second.result in
+    let Q : ℕ → Type 0 = λ k. OutlastsAt c.args.self.now.web.ends k (2 * c.args.s + 1) c.outlasting-second.result in
+    subst P (sym ends) (subst Q half c.outlasting-second.ensures)

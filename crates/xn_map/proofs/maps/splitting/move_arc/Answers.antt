@@ -2,7 +2,7 @@ use Rattle.std.proofs.Common.{◌*◌, ◌<◌, ℕ, arith, length, refl, subst,
 use Rattle.xn_model.specs.Lists.{at, position_in}
 use Rattle.xn_model.specs.Permutation.{iterate, walk}
 use Rattle.xn_ring.proofs.Orbits.{iterate_below}
-use Rattle.xn_map.proofs.Arcs.{arc_more, nearer}
+use Rattle.xn_map.proofs.Arcs.{arc_more, nearer, stays_behind}
 use Rattle.xn_map.proofs.maps.splitting.move_arc.Goals as goal
 
 pub loop-d-init : goal.loop-d-init
@@ -39,6 +39,11 @@ loop-d-preserved c =
     let low = iterate_below (length c.args.rings.now) next c.requires.permutes l a c.requires.a_in in omega (arith, low, c.requires.darts) in
     record {
       dart = c.next-d.ensures.below;
-      so_far = arc_more next a c.args.b c.args.v c.loop-d.d c.next-d.result c.args.web.now c.loop-d.web c.move_dart.new.web within old.so_far c.loop-d-test.true
-          c.move_dart.ensures c.next-d.ensures.next;
+      so_far = arc_more next a c.args.b c.args.v c.loop-d.d c.next-d.result c.args.web.now c.loop-d.web c.move_dart.new.self within old.so_far c.loop-d-test.true
+          c.move_dart.ensures.moved c.next-d.ensures.next;
     }
+
+pub move_dart-requires-clause-other : goal.move_dart-requires-clause-other
+move_dart-requires-clause-other c =
+    stays_behind (length c.args.rings.now) (at c.args.rings.now) c.args.a c.args.b c.args.v c.loop-d.d c.args.web.now c.loop-d.web c.requires.darts c.requires.permutes c.requires.stays
+    c.loop-d.invariant.dart c.loop-d.invariant.so_far c.loop-d-test.true

@@ -1,6 +1,0 @@
-use Rattle.std.proofs.Common.{◌≢◌, ℕ, ◌<◌}
-use Rattle.xn_model.specs.Map.{tail_of}
-use Rattle.xn_euler.proofs.resolution.least_dart.Given as goal
-
-abbrev pub invariant-loop-d : goal.invariant-loop-d
-invariant-loop-d l = (e : ℕ) → e < l.d → tail_of l.map.web.ends e ≢ l.v
