@@ -3,6 +3,7 @@ ghost use Rattle.std.specs.Prelude.{◌≡◌, ◌≤◌, IfOk, codes};
 ghost use Rattle.xn_proof.specs.Proofs.{answer_of, nothing_at, proof_at};
 ghost use Rattle.xn_proof.specs.Ranges.{no_form, one_form};
 ghost use Rattle.xn_proof.specs.Reading.{Gives, Reads, form_at};
+ghost use Rattle.xn_proof.specs.WellFormed.{WellFormed};
 
 use crate::flaw::{AnswerErr, trailing};
 use crate::front::front_lines;
@@ -64,7 +65,8 @@ pub fn read_proof(
 /// joins a node to itself, or at the line after the end.
 #[tactic(auto, unfolding(crate::specs::Proofs::answer_of))]
 pub fn read_answer(alloc: Global, text: &[u8]) -> Result<Answer, AnswerErr>
-    ensures { Gives (λ answer. answer) result (answer_of text.now) }
+    ensures read { Gives (λ answer. answer) result (answer_of text.now) }
+    ensures well_formed { IfOk result WellFormed }
 {
     let mut reader = Reader::new(text);
     let front = front_lines(alloc, &mut reader)?;

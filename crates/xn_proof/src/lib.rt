@@ -12,9 +12,12 @@ mod reader;
 mod refusal;
 mod rows;
 mod tree;
+mod writer;
+mod writing;
 
 pub use answer::{read_answer, read_proof};
 pub use flaw::AnswerErr;
 pub use front::{Front, front_lines, read_front};
 pub use reader::Reader;
 pub use refusal::write_flaw;
+pub use writer::write_answer;
