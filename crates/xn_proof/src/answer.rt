@@ -61,12 +61,9 @@ pub fn read_proof(
     Ok((Sequence::new(rows), Tree::new(nodes)))
 }
 
-/// What a text says. It refuses at the first line that isn't of its form, has a number outside its range, or is an edge that
-/// joins a node to itself, or at the line after the end.
 #[tactic(auto, unfolding(crate::specs::Proofs::answer_of))]
-pub fn read_answer(alloc: Global, text: &[u8]) -> Result<Answer, AnswerErr>
-    ensures read { Gives (λ answer. answer) result (answer_of text.now) }
-    ensures well_formed { IfOk result WellFormed }
+fn whole_answer(alloc: Global, text: &[u8]) -> Result<Answer, AnswerErr>
+    ensures { Gives (λ answer. answer) result (answer_of text.now) }
 {
     let mut reader = Reader::new(text);
     let front = front_lines(alloc, &mut reader)?;
@@ -82,4 +79,14 @@ pub fn read_answer(alloc: Global, text: &[u8]) -> Result<Answer, AnswerErr>
         rows,
         tree,
     })
+}
+
+/// What a text says. It refuses at the first line that isn't of its form, has a number outside its range, or is an edge that
+/// joins a node to itself, or at the line after the end.
+pub fn read_answer(alloc: Global, text: &[u8]) -> Result<Answer, AnswerErr>
+    ensures read { Gives (λ answer. answer) result (answer_of text.now) }
+    ensures well_formed { IfOk result WellFormed }
+{
+    let answer = whole_answer(alloc, text)?;
+    Ok(answer)
 }

@@ -11,6 +11,8 @@ mod ranges;
 mod reader;
 mod refusal;
 mod rows;
+#[cfg(test)]
+mod tests;
 mod tree;
 mod writer;
 mod writing;
