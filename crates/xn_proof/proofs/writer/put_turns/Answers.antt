@@ -1,4 +1,4 @@
-use Rattle.std.proofs.Common.{◌+◌, ◌*◌, ◌++◌, ◌∙◌, sym, ap, arith}
+use Rattle.std.proofs.Common.{◌++◌, ◌∙◌, sym, ap, arith}
 use Rattle.xn_proof.specs.Spelling.{turn_line, turns_of}
 use Rattle.xn_proof.proofs.Appended.{each_all, each_more, turns_at, turns_below, turns_past}
 use Rattle.xn_proof.proofs.writer.put_turns.Goals as goal
