@@ -4,9 +4,12 @@
 mod answer;
 mod evidence;
 mod flaw;
+mod forms;
 mod front;
+mod item;
 mod items;
 pub mod laws;
+mod places;
 mod ranges;
 mod reader;
 mod refusal;
@@ -19,7 +22,9 @@ mod writing;
 
 pub use answer::{read_answer, read_proof};
 pub use flaw::AnswerErr;
+pub use forms::Forms;
 pub use front::{Front, front_lines, read_front};
+pub use item::Item;
 pub use reader::Reader;
 pub use refusal::write_flaw;
 pub use writer::write_answer;
