@@ -1,6 +1,6 @@
 -- What each call makes of a given state.
-use Rattle.std.proofs.Common.{◌≡◌, ◌≢◌, ℕ, zero, suc, ◌*◌, ◌<◌, inl, inr, Bool, true, false, ◌&&◌, ltb, List, [], ◌∷◌, Vec, length, refl, sym, subst, ap, ◌∙◌, arith, get_or, length-set, set}
-use Rattle.std.specs.Prelude.{Option, Some, None, IsSome, insert, max, min, replicate, vec_items}
+use Rattle.std.proofs.Common.{◌≡◌, ◌≢◌, ℕ, zero, suc, ◌+◌, ◌*◌, ◌<◌, inl, inr, Bool, true, false, ◌&&◌, ltb, List, [], ◌∷◌, Vec, length, refl, sym, subst, ap, ◌∙◌, arith, get_or, length-set, set}
+use Rattle.std.specs.Prelude.{Option, Some, None, IsSome, insert, max, min, replicate, swap, vec_items}
 use Rattle.std.specs.Global.{Global}
 use Rattle.std.specs.List.{remove}
 use Rattle.std.proofs.Math.Seq.{map-set_same}
@@ -11,8 +11,8 @@ use Rattle.xn_model.specs.Lists.{has}
 use Rattle.xn_list.specs.Lists.{lists_of}
 use Rattle.xn_kinds.specs.State.{State, Crosses, IsState, decide, empty_state, place}
 use Rattle.xn_rows.specs.Given.{Situation, IsGiven, pair_place, situation_of, state_of}
-use Rattle.xn_rows.specs.Steps.{undecide, unplace, value_in, with_entry}
-use Rattle.xn_rows.proofs.Kept.{decided_state, empty_is_state, independent-flip, not_itself, placed_state, undecided_state, unplaced_state}
+use Rattle.xn_rows.specs.Steps.{shift, undecide, unplace, value_in, with_entry}
+use Rattle.xn_rows.proofs.Kept.{decided_state, empty_is_state, independent-flip, not_itself, placed_state, shifted_state, undecided_state, unplaced_state}
 use Rattle.xn_rows.proofs.Table.{state-set_entry, state-set_list, with_list}
 
 -- what holds of two numbers in both orders holds of the smaller and the greater
@@ -143,6 +143,14 @@ module _ (g : Graph) (pairs : List (Option Bool)) (vecs : List (Vec ℕ Global))
       let within : e < length vecs = omega (arith, edge_of_list (lists_of vecs) e i below, length-map vecs (vec_items {Z = Global})) in
       list_given (remove (s.placed e) i) within (written ∙ ap (λ xs. remove xs i) (lists-at vecs e x is within))
       (unplaced_state g s given.state e i below)
+
+  pub shifted_given : (i : ℕ) → i + 1 < length ((state_of (situation_of g pairs (lists_of vecs))).placed e) → w.items ≡ swap x.items i (i + 1) →
+      Becomes (situation_of g pairs (lists_of (set vecs e w))) (shift (state_of (situation_of g pairs (lists_of vecs))) e i)
+  shifted_given i below written =
+      let s = state_of (situation_of g pairs (lists_of vecs)) in
+      let within : e < length vecs = omega (arith, edge_of_list (lists_of vecs) e (i + 1) below, length-map vecs (vec_items {Z = Global})) in
+      list_given (swap (s.placed e) i (i + 1)) within (written ∙ ap (λ xs. swap xs i (i + 1)) (lists-at vecs e x is within))
+      (shifted_state g s given.state e i below)
 
 -- the same list again
 pub same_lists : (vecs : List (Vec ℕ Global)) (e : ℕ) (x w : Vec ℕ Global) → x ≡ get_or vecs e x → w.items ≡ x.items → lists_of (set vecs e w) ≡ lists_of vecs

@@ -1,16 +1,16 @@
 -- A state stays one of the graph where a pair is decided or taken back, and where an edge is placed or taken away.
-use Rattle.std.proofs.Common.{◌≡◌, ℕ, ◌<◌, inl, inr, Bool, true, false, ◌&&◌, ◌||◌, eqb, List, [], ◌∷◌, length, refl, sym, subst, ap, ◌∙◌, get_or}
-use Rattle.std.specs.Prelude.{Option, Some, None, insert, nat_eq, not}
+use Rattle.std.proofs.Common.{◌≡◌, ℕ, ◌+◌, ◌<◌, inl, inr, Bool, true, false, ◌&&◌, ◌||◌, eqb, List, [], ◌∷◌, length, refl, sym, subst, ap, ◌∙◌, arith, get_or}
+use Rattle.std.specs.Prelude.{Option, Some, None, insert, nat_eq, not, swap}
 use Rattle.std.specs.List.{AllByRecursion, IsDistinct, remove}
 use Rattle.std.specs.List.Sorted.{IsPermutation}
 use Rattle.std.proofs.lemmas.Bool.{both_ways, cases_Bool, cases_eq, cond-false, eq-eqb, eqb-true, ne_eqb, and_parts, or_cases}
 use Rattle.std.proofs.lemmas.List.{get_or_default}
-use Rattle.std.proofs.lemmas.List.Sorted.{IsPermutation-insert, IsPermutation-remove, list_any-IsPermutation}
+use Rattle.std.proofs.lemmas.List.Sorted.{IsPermutation-insert, IsPermutation-remove, IsPermutation-swap, list_any-IsPermutation}
 use Rattle.std.proofs.lemmas.Map.Keys.{IsDistinct-cons, IsDistinct-IsPermutation, IsDistinct-tail}
 use Rattle.xn_model.specs.Graph.{Graph, Independent, ends_at, touches}
 use Rattle.xn_model.specs.Lists.{has}
 use Rattle.xn_kinds.specs.State.{State, Crosses, IsState, empty_state, place}
-use Rattle.xn_rows.specs.Steps.{unplace, with_entry}
+use Rattle.xn_rows.specs.Steps.{shift, unplace, with_entry}
 use Rattle.xn_rows.proofs.Table.{with_list}
 
 -- an edge isn't independent of itself
@@ -29,7 +29,7 @@ turned false false true s h = absurd (both_ways false refl h)
 turned false false false true h = absurd (both_ways false refl h)
 turned false false false false h = refl
 
-eqb-flip : (x y : ℕ) → eqb x y ≡ eqb y x
+pub eqb-flip : (x y : ℕ) → eqb x y ≡ eqb y x
 eqb-flip x y = elim (cases_eq x y) [
   | inl same ↦ eq-eqb x y same ∙ sym (eq-eqb y x (sym same))
   | inr differ ↦ ne_eqb x y differ ∙ sym (ne_eqb y x (λ same. differ (sym same)))
@@ -159,3 +159,10 @@ module _ (g : Graph) (s : State) (is_state : IsState g s) (e : ℕ) where
       list_state g s is_state e (remove (s.placed e) i)
       (IsDistinct-tail nat_eq out (remove (s.placed e) i) (IsDistinct-IsPermutation nat_eq eqb-flip (s.placed e) (out ∷ remove (s.placed e) i) moved (is_state.no_repeats e)))
       (λ b h. is_state.crosses e b (list_any-IsPermutation (λ y. eqb y b) _ _ moved ∙ later (eqb out b) (has (remove (s.placed e) i) b) h))
+
+  pub shifted_state : (i : ℕ) → i + 1 < length (s.placed e) → IsState g (shift s e i)
+  shifted_state i within =
+      let ys = swap (s.placed e) i (i + 1) in
+      let moved : IsPermutation (s.placed e) ys = IsPermutation-swap (s.placed e) ys i (i + 1) (omega (arith, within)) within refl in
+      list_state g s is_state e ys (IsDistinct-IsPermutation nat_eq eqb-flip (s.placed e) ys moved (is_state.no_repeats e))
+      (λ b h. is_state.crosses e b (list_any-IsPermutation (λ y. eqb y b) _ _ moved ∙ h))

@@ -2,5 +2,7 @@
 #![tactic(auto)]
 
 mod states;
+mod walks;
 
 pub use states::Given;
+pub use walks::{Choice, TreeWalk};

@@ -4,7 +4,7 @@ ghost use Rattle.xn_model.specs.Lists.{has};
 ghost use Rattle.xn_list.specs.Lists.{lists_of};
 ghost use Rattle.xn_kinds.specs.State.{Crosses, IsState, decide, empty_state, place};
 ghost use Rattle.xn_rows.specs.Given.{pair_place, state_of};
-ghost use Rattle.xn_rows.specs.Steps.{undecide, unplace, value_in};
+ghost use Rattle.xn_rows.specs.Steps.{shift, undecide, unplace, value_in};
 
 use std::alloc::{AllocError, Global};
 use std::marker::Model;
@@ -113,6 +113,23 @@ impl Given {
         ensures state { state_of self.new ≡ unplace (state_of self.old) e at }
     {
         self.placed[e as usize].remove(at as usize);
+    }
+
+    // The entries at a position along e and at the next change places. It takes no memory.
+    pub(crate) fn shift(&mut self, e: u32, at: u32)
+        requires { at + 1 < length ((state_of self.old).placed e) }
+        ensures graph { self.new.graph ≡ self.old.graph }
+        ensures state { state_of self.new ≡ shift (state_of self.old) e at }
+    {
+        self.placed[e as usize].swap(at as usize, at as usize + 1);
+    }
+
+    // The graph whose state it is.
+    pub(crate) fn graph(&self) -> &Graph
+        ensures graph { result.now ≡ self.now.graph }
+        ensures state { IsState self.now.graph (state_of self.now) }
+    {
+        &self.graph
     }
 
     // The place of a pair in the table.
