@@ -1,4 +1,15 @@
-//! Flat maps that grow by one segment after another: what it means that a list of segments is stuck.
+//! Evidence by flat insertions: flat maps that grow by one segment after another, in the order of a list.
 #![tactic(auto)]
 
+mod darts;
+mod earlier;
+mod extending;
+mod faces;
 pub mod laws;
+mod lists;
+mod search;
+#[cfg(test)]
+mod tests;
+
+pub use extending::{Extended, extend};
+pub use lists::list_flaw;
