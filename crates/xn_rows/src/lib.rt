@@ -1,0 +1,10 @@
+//! Rows: whether one holds, and if not its first flaw.
+#![tactic(auto)]
+
+mod causes;
+mod dependents;
+mod holding;
+mod strays;
+
+pub use causes::RowErr;
+pub use holding::row_holds;
