@@ -1,5 +1,5 @@
 -- Edges and lists of which nothing is wrong are orders.
-use Rattle.std.proofs.Common.{◌≡◌, ℕ, suc, ◌+◌, ◌-◌, ◌<◌, ◌≤◌, inl, inr, true, false, List, length, get_or, refl, sym, ◌∙◌, ap, subst, arith}
+use Rattle.std.proofs.Common.{◌≡◌, ℕ, ◌+◌, ◌-◌, ◌<◌, ◌≤◌, inl, inr, true, false, List, length, get_or, sym, ◌∙◌, ap, subst, arith}
 use Rattle.std.specs.Prelude.{nat_eq}
 use Rattle.std.proofs.lemmas.Bool.{both_ways, cases_Bool, cases_lt, ne_eqb, true_from_ne_false}
 use Rattle.std.proofs.lemmas.List.{get_or_default}
@@ -10,7 +10,6 @@ use Rattle.xn_model.specs.Orders.{IsEdgeList, order_at}
 use Rattle.xn_kinds.specs.Row.{orders_of}
 use Rattle.xn_kinds.specs.declared.rows.Row.{Row}
 use Rattle.xn_draw.specs.Entries.{IsDependent, NamesFirst, NoEntry}
-use Rattle.xn_draw.proofs.Numbered.{has-get_or}
 use Rattle.xn_draw.proofs.OrdersFound.{place_of}
 use Rattle.xn_kinds.specs.declared.flaws.RowFlaw.TheVariants.{Dependent, Order}
 use Rattle.xn_rows.specs.Holding.{HasOrder, HasOrders, IsRowFlaw, IsStray, IsWrongEdge, NoneOf}

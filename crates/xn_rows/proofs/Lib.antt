@@ -1,3 +1,4 @@
+pub mod Excluded
 pub mod Found
 pub mod Listed
 pub mod LoopFree

@@ -4,7 +4,10 @@
 mod causes;
 mod dependents;
 mod holding;
+pub mod laws;
 mod strays;
+#[cfg(test)]
+mod tests;
 
 pub use causes::RowErr;
 pub use holding::row_holds;

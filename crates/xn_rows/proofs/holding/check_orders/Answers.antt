@@ -1,6 +1,4 @@
-use Rattle.std.proofs.Common.{◌≡◌, List, ℕ, length, sym, subst}
-use Rattle.xn_model.specs.Orders.{IsEdgeList}
-use Rattle.xn_rows.specs.Holding.{IsWrongEdge, NoneOf}
+use Rattle.std.proofs.Common.{length}
 use Rattle.xn_rows.proofs.Found.{dependent_flaw, edge_list, in_order, order_flaw, orders_found}
 use Rattle.xn_rows.proofs.holding.check_orders.Goals as goal
 

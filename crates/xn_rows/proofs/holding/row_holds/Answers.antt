@@ -1,4 +1,4 @@
-use Rattle.std.proofs.Common.{◌≡◌, ap, sym, ◌∙◌, subst}
+use Rattle.std.proofs.Common.{ap, sym, ◌∙◌, subst}
 use Rattle.xn_model.specs.Graph.{Graph, HasNoLoop}
 use Rattle.xn_model.specs.Orders.{order_at}
 use Rattle.xn_model.specs.Web.{web_of}
