@@ -14,7 +14,7 @@ mod Marking
 mod Pairs
 mod Path
 mod Proposals
-mod Stages
+pub mod Stages
 mod StubCounts
 mod Tally
 mod Tracing

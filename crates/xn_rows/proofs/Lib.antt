@@ -1,0 +1,11 @@
+pub mod Changed
+pub mod Decided
+pub mod Excluded
+pub mod Found
+pub mod Judged
+pub mod Kept
+pub mod Listed
+pub mod LoopFree
+pub mod Marked
+pub mod Paths
+pub mod Table

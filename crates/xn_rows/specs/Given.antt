@@ -1,0 +1,31 @@
+-- Given states as the program holds them.
+use Rattle.std.specs.Prelude.{◌≡◌, ℕ, ◌+◌, ◌*◌, ◌&&◌, Bool, List, [], Option, None, length, if◌then◌else◌, nat_lt, slice_index_or}
+use Rattle.xn_model.specs.Graph.{Graph}
+use Rattle.xn_kinds.specs.State.{State, IsState}
+
+-- a graph, a table with an entry for each two edges, and along each edge the placed edges
+pub record Situation : Type 0 where
+  pub graph : Graph
+  pub pairs : List (Option Bool)
+  pub placed : List (List ℕ)
+
+abbrev pub situation_of : Graph → List (Option Bool) → List (List ℕ) → Situation
+situation_of g pairs placed = record { graph = g; pairs = pairs; placed = placed }
+
+-- the place of the pair e < f in a table of so many edges
+abbrev pub pair_place : ℕ → ℕ → ℕ → ℕ
+pair_place edges e f = e * edges + f
+
+-- what the table says of the pair e < f
+abbrev pub entry_in : ℕ → List (Option Bool) → ℕ → ℕ → Option Bool
+entry_in edges pairs e f = if nat_lt e f && nat_lt f edges then slice_index_or pairs (pair_place edges e f) None else None
+
+-- the state of the situation
+abbrev pub state_of : Situation → State
+state_of v = record { decided = entry_in (length v.graph.ends) v.pairs; placed = λ e. slice_index_or v.placed e [] }
+
+-- the table and the lists have room for each edge, and the state is one of the graph
+pub record IsGiven (v : Situation) : Type 0 where
+  pub pairs_fit : length v.pairs ≡ length v.graph.ends * length v.graph.ends
+  pub lists_fit : length v.placed ≡ length v.graph.ends
+  pub state : IsState v.graph (state_of v)
