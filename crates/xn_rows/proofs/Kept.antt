@@ -29,7 +29,7 @@ turned false false true s h = absurd (both_ways false refl h)
 turned false false false true h = absurd (both_ways false refl h)
 turned false false false false h = refl
 
-eqb-flip : (x y : ℕ) → eqb x y ≡ eqb y x
+pub eqb-flip : (x y : ℕ) → eqb x y ≡ eqb y x
 eqb-flip x y = elim (cases_eq x y) [
   | inl same ↦ eq-eqb x y same ∙ sym (eq-eqb y x (sym same))
   | inr differ ↦ ne_eqb x y differ ∙ sym (ne_eqb y x (λ same. differ (sym same)))

@@ -1,3 +1,10 @@
-pub mod Table
-pub mod Kept
 pub mod Changed
+pub mod Edges
+pub mod Kept
+pub mod Least
+pub mod Neighbours
+pub mod Pairs
+pub mod Table
+pub mod Weights
+pub mod Additions
+pub mod Split

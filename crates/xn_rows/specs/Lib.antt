@@ -1,2 +1,4 @@
 pub mod Given
+pub mod Leaf
+pub mod Least
 pub mod Steps

@@ -1,6 +1,13 @@
 //! Given states, and the bound of a leaf in one.
 #![tactic(auto)]
 
+mod bounds;
+mod crossings;
+mod leasts;
+mod leaves;
+mod lists;
 mod states;
+mod turns;
 
+pub use bounds::bound;
 pub use states::Given;
