@@ -1,0 +1,146 @@
+-- The graph of a text.
+use Rattle.std.specs.Prelude.{ℕ, ℤ, ◌+◌, ◌==◌, nat_lt, List, [], ◌∷◌, ◌++◌, length, Option, None, Some, is_some, Result, Ok, Err, if◌then◌else◌}
+use Rattle.std.specs.Map.{lookup}
+use Rattle.std.specs.Ordering.{int_eq}
+use Rattle.xn_model.specs.Graph.{Graph}
+use Rattle.xn_graph.specs.Limits.{graph_of}
+use Rattle.xn_gml.specs.declared.errors.GmlErr.{GmlErr}
+use Rattle.xn_gml.specs.declared.errors.GmlErr.TheVariants.{NoGraph, SecondGraph, NoId, Repeated, Unknown, Range, TooManyNodes, TooManyEdges}
+use Rattle.xn_gml.specs.declared.pair.Pair.{Pair}
+use Rattle.xn_gml.specs.declared.token.Key.{Key}
+use Rattle.xn_gml.specs.declared.token.Key.TheVariants as key
+use Rattle.xn_gml.specs.declared.token.Kind.{Kind}
+use Rattle.xn_gml.specs.declared.token.Kind.TheVariants.{Open, Close, Quoted, Word, Number, Malformed}
+use Rattle.xn_gml.specs.declared.token.Token.{Token}
+use Rattle.xn_gml.specs.Grammar.{grammar_of}
+use Rattle.xn_gml.specs.Lists.{first_of, lists_of}
+use Rattle.xn_gml.specs.Reading.{◌>>=◌}
+use Rattle.xn_gml.specs.Tokens.{tokens_of}
+
+-- the list of the one graph
+abbrev pub one_of : List Pair → Result (List Token) GmlErr
+one_of [] = Err NoGraph
+one_of (g ∷ []) = Ok g.list
+one_of (g ∷ second ∷ others) = Err (SecondGraph second.at)
+
+-- ---- values
+
+-- a value that a block must have; the block's `[` stands at an offset
+abbrev pub required : ℕ → Option Token → Result Token GmlErr
+required at None = Err (NoId at)
+required at (Some value) = Ok value
+
+-- the first value of this key in a block
+unfoldable pub value_in : Key → Pair → Result Token GmlErr
+value_in key block = required block.value.at (first_of key block.list)
+
+-- the integer that a token is
+abbrev pub fitting : ℕ → Option ℤ → Result ℤ GmlErr
+fitting at (Some n) = Ok n
+fitting at None = Err (Range at)
+
+abbrev pub integer_by : ℕ → Kind → Result ℤ GmlErr
+integer_by at (Number value) = fitting at value
+integer_by at Open = Err (Range at)
+integer_by at Close = Err (Range at)
+integer_by at Quoted = Err (Range at)
+integer_by at (Word key) = Err (Range at)
+integer_by at Malformed = Err (Range at)
+
+unfoldable pub integer_at : Token → Result ℤ GmlErr
+integer_at value = integer_by value.at value.kind
+
+-- ---- nodes
+
+-- the number of the node with an id, where there is one
+abbrev pub number_of : List (ℤ × ℕ) → ℤ → Option ℕ
+number_of ids id = lookup (int_eq id) ids
+
+-- the id of a node block that follows these ids
+unfoldable pub new_id : List (ℤ × ℕ) → Pair → Result ℤ GmlErr
+new_id ids block = do
+  value ← value_in key.Id block
+  id ← integer_at value
+  if is_some (number_of ids id) then Err (Repeated value.at) else Ok id
+
+-- the ids of node blocks, numbered in order; 1,000 at most
+unfoldable pub ids_from : List (ℤ × ℕ) → List Pair → Result (List (ℤ × ℕ)) GmlErr
+ids_from ids [] = Ok ids
+ids_from ids (block ∷ blocks) = do
+  id ← if nat_lt (length ids) 1000 then new_id ids block else Err TooManyNodes
+  ids_from (ids ++ (id, length ids) ∷ []) blocks
+
+-- ---- edges
+
+abbrev pub known : ℕ → Option ℕ → Result ℕ GmlErr
+known at (Some n) = Ok n
+known at None = Err (Unknown at)
+
+-- the source and the target of an edge block
+unfoldable pub values_of : Pair → Result (Token × Token) GmlErr
+values_of block = do
+  source ← value_in key.Source block
+  target ← value_in key.Target block
+  Ok (source, target)
+
+-- the nodes that the two values name
+unfoldable pub nodes_of : List (ℤ × ℕ) → Token × Token → Result (ℕ × ℕ) GmlErr
+nodes_of ids ends = do
+  source ← integer_at ends.0
+  target ← integer_at ends.1
+  u ← known ends.0.at (number_of ids source)
+  v ← known ends.1.at (number_of ids target)
+  Ok (u, v)
+
+-- edges, and how many loops were left aside
+pub record Edges : Type 0 where
+  pub ends : List (ℕ × ℕ)
+  pub loops : ℕ
+
+-- one edge more, or one loop; 1,000 edges at most
+unfoldable pub with_edge : Edges → ℕ × ℕ → Result Edges GmlErr
+with_edge edges e =
+    if e.0 == e.1 then Ok (record { ends = edges.ends; loops = edges.loops + 1 }) else
+    (if nat_lt (length edges.ends) 1000 then Ok (record { ends = edges.ends ++ e ∷ []; loops = edges.loops }) else Err TooManyEdges)
+
+-- these edges, and those of an edge block
+unfoldable pub with_block : List (ℤ × ℕ) → Edges → Pair → Result Edges GmlErr
+with_block ids edges block = do
+  values ← values_of block
+  e ← nodes_of ids values
+  with_edge edges e
+
+-- these edges, and those of edge blocks
+unfoldable pub edges_from : List (ℤ × ℕ) → Edges → List Pair → Result Edges GmlErr
+edges_from ids edges [] = Ok edges
+edges_from ids edges (block ∷ blocks) = do
+  more ← with_block ids edges block
+  edges_from ids more blocks
+
+abbrev pub no_edges : Edges
+no_edges = record { ends = []; loops = 0 }
+
+-- ---- the whole
+
+-- a graph, the number of the node of each id, and how many loops were left aside
+pub record Found : Type 0 where
+  pub graph : Graph
+  pub ids : List (ℤ × ℕ)
+  pub loops : ℕ
+
+abbrev pub found : List (ℤ × ℕ) → Edges → Found
+found ids edges = record { graph = graph_of (length ids) edges.ends; ids = ids; loops = edges.loops }
+
+-- the graph of a list
+unfoldable pub graph_in : List Token → Result Found GmlErr
+graph_in list = do
+  ids ← ids_from [] (lists_of key.Node list)
+  edges ← edges_from ids no_edges (lists_of key.Edge list)
+  Ok (found ids edges)
+
+-- the graph of a text, or its first refusal
+unfoldable pub graph_of_text : List ℕ → Result Found GmlErr
+graph_of_text text = do
+  passed ← grammar_of text
+  list ← one_of (lists_of key.Graph (tokens_of text))
+  graph_in list
