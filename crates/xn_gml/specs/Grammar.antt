@@ -3,42 +3,29 @@ use Rattle.std.specs.Prelude.{ℕ, ◌+◌, ◌-◌, nat_lt, Bool, true, false, 
 use Rattle.xn_gml.specs.declared.errors.GmlErr.{GmlErr}
 use Rattle.xn_gml.specs.declared.errors.GmlErr.TheVariants.{Syntax, Deep}
 use Rattle.xn_gml.specs.declared.token.Kind.{Kind}
-use Rattle.xn_gml.specs.declared.token.Kind.TheVariants.{Open, Close, Quoted, Word, Number, Malformed}
+use Rattle.xn_gml.specs.declared.token.Kind.TheVariants.{Open, Close, Word, Malformed}
 use Rattle.xn_gml.specs.declared.token.Token.{Token}
 use Rattle.xn_gml.specs.Tokens.{tokens_of}
 
 -- whether a token can stand where the value of a key is awaited, or else a key, while so many lists are open
 abbrev pub stands : Bool → ℕ → Kind → Bool
-stands true depth Open = true
-stands true depth Quoted = true
-stands true depth (Word key) = true
-stands true depth (Number value) = true
 stands true depth Close = false
 stands true depth Malformed = false
+stands true depth kind = true
 stands false depth (Word key) = true
 stands false depth Close = nat_lt 0 depth
-stands false depth Open = false
-stands false depth Quoted = false
-stands false depth (Number value) = false
-stands false depth Malformed = false
+stands false depth kind = false
 
--- whether a value is awaited after a token, where one was awaited before it or not: after a key alone
+-- whether a value is awaited after a token: after a word that is a key
 abbrev pub awaits : Bool → Kind → Bool
 awaits awaited (Word key) = not awaited
-awaits awaited Open = false
-awaits awaited Close = false
-awaits awaited Quoted = false
-awaits awaited (Number value) = false
-awaits awaited Malformed = false
+awaits awaited kind = false
 
 -- how many lists are open after a token
 abbrev pub opened : Kind → ℕ → ℕ
 opened Open depth = depth + 1
 opened Close depth = depth - 1
-opened Quoted depth = depth
-opened (Word key) depth = depth
-opened (Number value) depth = depth
-opened Malformed depth = depth
+opened kind depth = depth
 
 -- tokens that can each stand in its place, or the first flaw; the text ends at an offset, with no list open and no key without value
 unfoldable pub grammar_from : ℕ → Bool → ℕ → List Token → Result (Unit {0}) GmlErr

@@ -4,7 +4,7 @@ use Rattle.xn_gml.specs.declared.pair.Pair.{Pair}
 use Rattle.xn_gml.specs.declared.token.Key.{Key}
 use Rattle.xn_gml.specs.declared.token.Key.TheVariants as key
 use Rattle.xn_gml.specs.declared.token.Kind.{Kind}
-use Rattle.xn_gml.specs.declared.token.Kind.TheVariants.{Open, Close, Quoted, Word, Number, Malformed}
+use Rattle.xn_gml.specs.declared.token.Kind.TheVariants.{Open, Word}
 use Rattle.xn_gml.specs.declared.token.Token.{Token}
 use Rattle.xn_gml.specs.Grammar.{opened}
 
@@ -24,11 +24,7 @@ same_key a b = key_number a == key_number b
 -- a pair before others, where its key is a word
 abbrev pub paired : ℕ → Kind → Token → List Token → List Pair → List Pair
 paired at (Word word) value list pairs = record { key = word; at = at; value = value; list = list } ∷ pairs
-paired at Open value list pairs = []
-paired at Close value list pairs = []
-paired at Quoted value list pairs = []
-paired at (Number n) value list pairs = []
-paired at Malformed value list pairs = []
+paired at kind value list pairs = []
 
 -- the pairs up to the list's end, after so many inner lists are closed, whose tokens are passed over
 unfoldable pub pairs_from : ℕ → List Token → List Pair
@@ -43,11 +39,7 @@ pairs_of tokens = pairs_from 0 tokens
 
 abbrev pub is_open : Kind → Bool
 is_open Open = true
-is_open Close = false
-is_open Quoted = false
-is_open (Word key) = false
-is_open (Number value) = false
-is_open Malformed = false
+is_open kind = false
 
 -- a pair with this key, whose value is a list
 abbrev pub is_list_of : Key → Pair → Bool

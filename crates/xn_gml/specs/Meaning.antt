@@ -10,7 +10,7 @@ use Rattle.xn_gml.specs.declared.pair.Pair.{Pair}
 use Rattle.xn_gml.specs.declared.token.Key.{Key}
 use Rattle.xn_gml.specs.declared.token.Key.TheVariants as key
 use Rattle.xn_gml.specs.declared.token.Kind.{Kind}
-use Rattle.xn_gml.specs.declared.token.Kind.TheVariants.{Open, Close, Quoted, Word, Number, Malformed}
+use Rattle.xn_gml.specs.declared.token.Kind.TheVariants.{Number}
 use Rattle.xn_gml.specs.declared.token.Token.{Token}
 use Rattle.xn_gml.specs.Grammar.{grammar_of}
 use Rattle.xn_gml.specs.Lists.{first_of, lists_of}
@@ -41,11 +41,7 @@ fitting at None = Err (Range at)
 
 abbrev pub integer_by : ℕ → Kind → Result ℤ GmlErr
 integer_by at (Number value) = fitting at value
-integer_by at Open = Err (Range at)
-integer_by at Close = Err (Range at)
-integer_by at Quoted = Err (Range at)
-integer_by at (Word key) = Err (Range at)
-integer_by at Malformed = Err (Range at)
+integer_by at kind = Err (Range at)
 
 unfoldable pub integer_at : Token → Result ℤ GmlErr
 integer_at value = integer_by value.at value.kind

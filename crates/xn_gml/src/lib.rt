@@ -11,6 +11,8 @@ mod pair;
 mod reader;
 mod runs;
 mod stream;
+#[cfg(test)]
+mod tests;
 mod token;
 
 pub use errors::GmlErr;
