@@ -41,22 +41,22 @@ fails_first errors.TooManyEdges r f h = ap (λ x. x >>= f) h
 
 module _ (ids : List (ℤ × ℕ)) (block : Pair) (blocks : List Pair) where
   -- a block after 1,000 nodes
-  pub ids_full : 1000 ≤ length ids → ids_from ids (block ∷ blocks) ≡ Err errors.TooManyNodes
+  pub ids_full : 1000 ≤ length ids → ids_from 1000 ids (block ∷ blocks) ≡ Err errors.TooManyNodes
   unfolding ids_from
   ids_full full = rw (le-ltb (length ids) 1000 full) refl
 
   -- a node block that is refused
-  pub ids_stop : (e : GmlErr) → length ids < 1000 → new_id ids block ≡ Err e → ids_from ids (block ∷ blocks) ≡ Err e
+  pub ids_stop : (e : GmlErr) → length ids < 1000 → new_id ids block ≡ Err e → ids_from 1000 ids (block ∷ blocks) ≡ Err e
   unfolding ids_from
   ids_stop e few stop = rw (lt-ltb (length ids) 1000 few, stop) refl
 
   -- a node more
-  pub ids_more : (id : ℤ) → length ids < 1000 → new_id ids block ≡ Ok id → ids_from ids (block ∷ blocks) ≡ ids_from (ids ++ (id, length ids) ∷ []) blocks
+  pub ids_more : (id : ℤ) → length ids < 1000 → new_id ids block ≡ Ok id → ids_from 1000 ids (block ∷ blocks) ≡ ids_from 1000 (ids ++ (id, length ids) ∷ []) blocks
   unfolding ids_from
   ids_more id few more = rw (lt-ltb (length ids) 1000 few, more) refl
 
 -- no block more
-pub ids_done : (ids : List (ℤ × ℕ)) → ids_from ids [] ≡ Ok ids
+pub ids_done : (ids : List (ℤ × ℕ)) → ids_from 1000 ids [] ≡ Ok ids
 unfolding ids_from
 ids_done ids = refl
 
@@ -75,17 +75,17 @@ numbered_push ids new id n count e numbered =
 
 module _ (ids : List (ℤ × ℕ)) (edges : Edges) (block : Pair) (blocks : List Pair) where
   -- an edge block that is refused
-  pub edges_stop : (e : GmlErr) → Fails e (with_block ids edges block) → Fails e (edges_from ids edges (block ∷ blocks))
+  pub edges_stop : (e : GmlErr) → Fails e (with_block 1000 ids edges block) → Fails e (edges_from 1000 ids edges (block ∷ blocks))
   unfolding edges_from
-  edges_stop e stop = fails_first e (with_block ids edges block) (λ more. edges_from ids more blocks) stop
+  edges_stop e stop = fails_first e (with_block 1000 ids edges block) (λ more. edges_from 1000 ids more blocks) stop
 
   -- an edge block more
-  pub edges_more : (more : Edges) → with_block ids edges block ≡ Ok more → edges_from ids edges (block ∷ blocks) ≡ edges_from ids more blocks
+  pub edges_more : (more : Edges) → with_block 1000 ids edges block ≡ Ok more → edges_from 1000 ids edges (block ∷ blocks) ≡ edges_from 1000 ids more blocks
   unfolding edges_from
   edges_more more e = rw e refl
 
 -- no block more
-pub edges_done : (ids : List (ℤ × ℕ)) (edges : Edges) → edges_from ids edges [] ≡ Ok edges
+pub edges_done : (ids : List (ℤ × ℕ)) (edges : Edges) → edges_from 1000 ids edges [] ≡ Ok edges
 unfolding edges_from
 edges_done ids edges = refl
 

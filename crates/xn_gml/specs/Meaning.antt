@@ -59,12 +59,12 @@ new_id ids block = do
   id ← integer_at value
   if is_some (number_of ids id) then Err (Repeated value.at) else Ok id
 
--- the ids of node blocks, numbered in order; 1,000 at most
-unfoldable pub ids_from : List (ℤ × ℕ) → List Pair → Result (List (ℤ × ℕ)) GmlErr
-ids_from ids [] = Ok ids
-ids_from ids (block ∷ blocks) = do
-  id ← if nat_lt (length ids) 1000 then new_id ids block else Err TooManyNodes
-  ids_from (ids ++ (id, length ids) ∷ []) blocks
+-- these ids, and those of node blocks, numbered in order; so many at most
+unfoldable pub ids_from : ℕ → List (ℤ × ℕ) → List Pair → Result (List (ℤ × ℕ)) GmlErr
+ids_from most ids [] = Ok ids
+ids_from most ids (block ∷ blocks) = do
+  id ← if nat_lt (length ids) most then new_id ids block else Err TooManyNodes
+  ids_from most (ids ++ (id, length ids) ∷ []) blocks
 
 -- ---- edges
 
@@ -93,25 +93,25 @@ pub record Edges : Type 0 where
   pub ends : List (ℕ × ℕ)
   pub loops : ℕ
 
--- one edge more, or one loop; 1,000 edges at most
-unfoldable pub with_edge : Edges → ℕ × ℕ → Result Edges GmlErr
-with_edge edges e =
+-- one edge more, or one loop; so many edges at most
+unfoldable pub with_edge : ℕ → Edges → ℕ × ℕ → Result Edges GmlErr
+with_edge most edges e =
     if e.0 == e.1 then Ok (record { ends = edges.ends; loops = edges.loops + 1 }) else
-    (if nat_lt (length edges.ends) 1000 then Ok (record { ends = edges.ends ++ e ∷ []; loops = edges.loops }) else Err TooManyEdges)
+    (if nat_lt (length edges.ends) most then Ok (record { ends = edges.ends ++ e ∷ []; loops = edges.loops }) else Err TooManyEdges)
 
 -- these edges, and those of an edge block
-unfoldable pub with_block : List (ℤ × ℕ) → Edges → Pair → Result Edges GmlErr
-with_block ids edges block = do
+unfoldable pub with_block : ℕ → List (ℤ × ℕ) → Edges → Pair → Result Edges GmlErr
+with_block most ids edges block = do
   values ← values_of block
   e ← nodes_of ids values
-  with_edge edges e
+  with_edge most edges e
 
 -- these edges, and those of edge blocks
-unfoldable pub edges_from : List (ℤ × ℕ) → Edges → List Pair → Result Edges GmlErr
-edges_from ids edges [] = Ok edges
-edges_from ids edges (block ∷ blocks) = do
-  more ← with_block ids edges block
-  edges_from ids more blocks
+unfoldable pub edges_from : ℕ → List (ℤ × ℕ) → Edges → List Pair → Result Edges GmlErr
+edges_from most ids edges [] = Ok edges
+edges_from most ids edges (block ∷ blocks) = do
+  more ← with_block most ids edges block
+  edges_from most ids more blocks
 
 abbrev pub no_edges : Edges
 no_edges = record { ends = []; loops = 0 }
@@ -127,16 +127,25 @@ pub record Found : Type 0 where
 abbrev pub found : List (ℤ × ℕ) → Edges → Found
 found ids edges = record { graph = graph_of (length ids) edges.ends; ids = ids; loops = edges.loops }
 
--- the graph of a list
-unfoldable pub graph_in : List Token → Result Found GmlErr
-graph_in list = do
-  ids ← ids_from [] (lists_of key.Node list)
-  edges ← edges_from ids no_edges (lists_of key.Edge list)
+-- the graph of a list, with at most so many nodes, and at most so many edges
+unfoldable pub graph_in : ℕ → List Token → Result Found GmlErr
+graph_in most list = do
+  ids ← ids_from most [] (lists_of key.Node list)
+  edges ← edges_from most ids no_edges (lists_of key.Edge list)
   Ok (found ids edges)
 
+-- the list of the graph of a text, where the text keeps the grammar
+unfoldable pub list_of : List ℕ → Result (List Token) GmlErr
+list_of text = do
+  kept ← grammar_of text
+  one_of (lists_of key.Graph (tokens_of text))
+
+-- the graph of a text, or its first refusal, with at most so many nodes, and at most so many edges
+unfoldable pub graph_within : ℕ → List ℕ → Result Found GmlErr
+graph_within most text = do
+  list ← list_of text
+  graph_in most list
+
 -- the graph of a text, or its first refusal
-unfoldable pub graph_of_text : List ℕ → Result Found GmlErr
-graph_of_text text = do
-  passed ← grammar_of text
-  list ← one_of (lists_of key.Graph (tokens_of text))
-  graph_in list
+abbrev pub graph_of_text : List ℕ → Result Found GmlErr
+graph_of_text text = graph_within 1000 text

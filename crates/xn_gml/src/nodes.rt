@@ -17,7 +17,7 @@ use std::alloc::Global;
 
 /// The ids of the node blocks of a graph, numbered in order. They may be at most 1,000.
 pub fn node_ids(alloc: Global, list: &Tokens) -> Result<IndexMap<i64, u32>, GmlErr>
-    ensures read { Gives (λ m. m.entries) result (ids_from [] (lists_of Node list.now)) }
+    ensures read { Gives (λ m. m.entries) result (ids_from 1000 [] (lists_of Node list.now)) }
     ensures few { IfOk result (λ m. index_map_len m ≤ 1000) }
     ensures numbered { IfOk result (λ m. All (λ n. n < index_map_len m) (values m)) }
 {

@@ -1,11 +1,8 @@
 // The graph of a text.
-ghost use Rattle.std.specs.Prelude.{◌≡◌};
-ghost use Rattle.xn_gml.specs.declared.token.Key.TheVariants.{Graph as GraphKey};
-ghost use Rattle.xn_gml.specs.Lists.{lists_of};
-ghost use Rattle.xn_gml.specs.Meaning.{one_of, graph_in, graph_of_text};
+ghost use Rattle.std.specs.Prelude.{◌≡◌, IfErr, IsErrOf};
+ghost use Rattle.xn_gml.specs.Meaning.{list_of, graph_in, graph_of_text};
 ghost use Rattle.xn_gml.specs.Reading.{Gives};
 ghost use Rattle.xn_gml.specs.ReadView.{found_in};
-ghost use Rattle.xn_gml.specs.Tokens.{tokens_of};
 
 use crate::edges::edge_list;
 use crate::errors::GmlErr;
@@ -34,19 +31,24 @@ pub struct Read {
 /// The graph is the list of the one top-level pair with key `graph` whose value is a list. In it the pairs with key `node` or
 /// `edge` whose value is a list are the nodes and the edges; the first `id` of a node and the first `source` and `target` of an
 /// edge count, and all else is skipped. It takes time linear in the text's length, and fails with `Memory` only for want of memory.
-#[tactic(auto, unfolding(crate::specs::Meaning::graph_of_text))]
+#[tactic(auto, unfolding(crate::specs::Meaning::graph_within))]
 pub fn read_graph(alloc: Global, text: &[u8]) -> Result<Read, GmlErr>
-    ensures { Gives found_in result (graph_of_text text.now) }
+    // The graph of the text, or its first refusal, unless memory is wanting.
+    ensures read { Gives found_in result (graph_of_text text.now) }
+
+    // The grammar's refusals and those of the graph as a whole come even where memory is wanting.
+    ensures early { IfErr (list_of text.now) (IsErrOf result) }
 {
-    check_grammar(text)?;
     let list = graph_list(text)?;
     graph_in(alloc, &list)
 }
 
-// The list of the one graph.
+// The list of the graph, where the text keeps the grammar.
+#[tactic(auto, unfolding(crate::specs::Meaning::list_of))]
 fn graph_list(text: &[u8]) -> Result<Tokens, GmlErr>
-    ensures { result ≡ one_of (lists_of GraphKey (tokens_of text.now)) }
+    ensures { result ≡ list_of text.now }
 {
+    check_grammar(text)?;
     let mut tokens = Tokens::new(text);
     let Some(graph) = next_list(&mut tokens, Key::Graph) else {
         return Err(GmlErr::NoGraph);
@@ -60,7 +62,7 @@ fn graph_list(text: &[u8]) -> Result<Tokens, GmlErr>
 // The graph of a list.
 #[tactic(auto, unfolding(crate::specs::Meaning::graph_in))]
 fn graph_in(alloc: Global, list: &Tokens) -> Result<Read, GmlErr>
-    ensures { Gives found_in result (graph_in list.now) }
+    ensures { Gives found_in result (graph_in 1000 list.now) }
 {
     let ids = node_ids(alloc, list)?;
     let edges = edge_list(alloc, &ids, list)?;

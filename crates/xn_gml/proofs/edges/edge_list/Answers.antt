@@ -13,7 +13,7 @@ returns-in_err-edges-clause-read c =
 
 pub loop-block-preserved : goal.loop-block-preserved
 loop-block-preserved c = record {
-  read = sym (sym c.loop-block.invariant.read ∙ ap (edges_from c.args.ids.now.entries (edges_of c.loop-block.edges)) c.in-Some.ensures.some
+  read = sym (sym c.loop-block.invariant.read ∙ ap (edges_from 1000 c.args.ids.now.entries (edges_of c.loop-block.edges)) c.in-Some.ensures.some
       ∙ edges_more c.args.ids.now.entries (edges_of c.loop-block.edges) c.in-Some.block _ (edges_of c.in_ok-edges.edges) c.in_ok-edges.ensures.read);
   loops = omega (arith, c.in_ok-edges.ensures.loops, c.in-Some.ensures.shorter);
   few = c.in_ok-edges.ensures.few;
@@ -22,5 +22,5 @@ loop-block-preserved c = record {
 
 pub returns-clause-read : goal.returns-clause-read
 returns-clause-read c =
-    sym c.loop-block.invariant.read ∙ ap (edges_from c.args.ids.now.entries (edges_of c.loop-block.edges)) c.in_default.ensures.none
+    sym c.loop-block.invariant.read ∙ ap (edges_from 1000 c.args.ids.now.entries (edges_of c.loop-block.edges)) c.in_default.ensures.none
     ∙ edges_done c.args.ids.now.entries (edges_of c.loop-block.edges)

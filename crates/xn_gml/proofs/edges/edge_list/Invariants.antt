@@ -9,7 +9,7 @@ use Rattle.xn_gml.proofs.edges.edge_list.Given as goal
 
 abbrev pub invariant-loop-block : goal.invariant-loop-block
 invariant-loop-block l = record {
-  read : edges_from l.ids.entries (edges_of l.edges) (lists_of Edge l.tokens) ≡ edges_from l.ids.entries no_edges (lists_of Edge l.list);
+  read : edges_from 1000 l.ids.entries (edges_of l.edges) (lists_of Edge l.tokens) ≡ edges_from 1000 l.ids.entries no_edges (lists_of Edge l.list);
   loops : l.edges.loops + length l.tokens ≤ length l.initial.tokens;
   few : length l.edges.ends.items ≤ 1000;
   inside : All (IsEdge (index_map_len l.ids)) l.edges.ends.items;

@@ -7,7 +7,7 @@ use Rattle.xn_gml.proofs.nodes.node_ids.Given as goal
 
 abbrev pub invariant-loop-block : goal.invariant-loop-block
 invariant-loop-block l = record {
-  read : ids_from l.ids.entries (lists_of Node l.tokens) ≡ ids_from [] (lists_of Node l.list);
+  read : ids_from 1000 l.ids.entries (lists_of Node l.tokens) ≡ ids_from 1000 [] (lists_of Node l.list);
   few : index_map_len l.ids ≤ 1000;
   numbered : All (λ n. n < index_map_len l.ids) (values l.ids);
 }
