@@ -1,0 +1,5 @@
+pub mod BlockSteps
+pub mod Digits
+pub mod GrammarSteps
+pub mod PairSteps
+pub mod Steps

@@ -1,0 +1,19 @@
+//! The graph of a GML text.
+#![tactic(auto)]
+
+mod blocks;
+mod edges;
+mod errors;
+mod grammar;
+mod lists;
+mod nodes;
+mod pair;
+mod reader;
+mod runs;
+mod stream;
+#[cfg(test)]
+mod tests;
+mod token;
+
+pub use errors::GmlErr;
+pub use reader::{Read, read_graph};
