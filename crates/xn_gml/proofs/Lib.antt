@@ -3,3 +3,5 @@ pub mod Digits
 pub mod GrammarSteps
 pub mod PairSteps
 pub mod Steps
+pub mod TreeLemmas
+pub mod TreePairs

@@ -1,8 +1,10 @@
 pub mod EdgeView
 pub mod Grammar
+pub mod Laws
 pub mod Lists
 pub mod Meaning
 pub mod ReadView
 pub mod Reading
 pub mod Runs
 pub mod Tokens
+pub mod Trees

@@ -5,6 +5,7 @@ mod blocks;
 mod edges;
 mod errors;
 mod grammar;
+pub mod laws;
 mod lists;
 mod nodes;
 mod pair;
