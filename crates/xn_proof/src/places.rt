@@ -445,7 +445,7 @@ fn words(alloc: Global, place: Place, number: u64, line: &[u8]) -> Result<(Item,
     }
 }
 
-/// Whether the answer has come to its end.
+// Whether the answer has come to its end.
 pub fn is_end(place: Place) -> bool
     ensures { result ≡ is_end place }
 {
@@ -455,7 +455,7 @@ pub fn is_end(place: Place) -> bool
     }
 }
 
-/// What a line at a place says, and the place after it.
+// What a line at a place says, and the place after it.
 pub fn rule_at(
     alloc: Global,
     place: Place,
