@@ -1,5 +1,6 @@
 pub mod BlockSteps
 pub mod Digits
+pub mod FrontLemmas
 pub mod GrammarSteps
 pub mod PairSteps
 pub mod Steps

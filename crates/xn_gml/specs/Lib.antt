@@ -1,4 +1,5 @@
 pub mod EdgeView
+pub mod Fronts
 pub mod Grammar
 pub mod Laws
 pub mod Lists
