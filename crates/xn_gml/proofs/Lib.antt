@@ -4,5 +4,6 @@ pub mod FrontLemmas
 pub mod GrammarSteps
 pub mod PairSteps
 pub mod Steps
+pub mod TokenRules
 pub mod TreeLemmas
 pub mod TreePairs

@@ -6,6 +6,7 @@ pub mod Lists
 pub mod Meaning
 pub mod ReadView
 pub mod Reading
+pub mod Rules
 pub mod Runs
 pub mod Tokens
 pub mod Trees
