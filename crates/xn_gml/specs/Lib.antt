@@ -1,10 +1,12 @@
 pub mod EdgeView
+pub mod Fronts
 pub mod Grammar
 pub mod Laws
 pub mod Lists
 pub mod Meaning
 pub mod ReadView
 pub mod Reading
+pub mod Rules
 pub mod Runs
 pub mod Tokens
 pub mod Trees
