@@ -14,8 +14,6 @@ use Rattle.xn_proof.specs.declared.front.Front.{Front}
 use Rattle.xn_proof.specs.Fronts.{front_at}
 use Rattle.xn_proof.specs.Proofs.{answer_of, proof_at}
 use Rattle.xn_proof.specs.Reading.{◌>>=◌, Left}
-use Rattle.xn_proof.specs.Spelling.{text_of}
-use Rattle.xn_proof.specs.WellFormed.{WellFormed}
 use Rattle.xn_proof.proofs.AnswerTexts.{answer_takes, spelled_is_read}
 use Rattle.xn_proof.proofs.Steps.{bind_ok, ok_is}
 use Rattle.xn_app.specs.Verdict.{AfterDrawn, AfterFront, DrawnFails, HasProof, IsDrawn, SpellsDrawing, Verdict}

@@ -25,7 +25,7 @@ line_shortens s line after e =
     omega (arith, low, less, ap length same)
 
 -- no line is left in no bytes
-no_line : (s : Left) → length s.1 ≤ 0 → line_at s ≡ Err (syntax s.0)
+pub no_line : (s : Left) → length s.1 ≤ 0 → line_at s ≡ Err (syntax s.0)
 no_line (i, []) none = refl
 no_line (i, x ∷ xs) none = absurd (omega arith)
 

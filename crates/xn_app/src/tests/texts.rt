@@ -1,6 +1,6 @@
 // Texts of answers.
 
-// The drawing of K4.
+/// The drawing of K4.
 pub const K4: &str = "crossing-answer 1\n\
     graph 4 6\n\
     loops 0\n\
@@ -30,7 +30,7 @@ pub const K4: &str = "crossing-answer 1\n\
     leaf 1 0\n\
     end\n";
 
-// K5 with one crossing.
+/// K5 with one crossing.
 pub const K5: &str = "crossing-answer 1\n\
     graph 5 10\n\
     loops 0\n\
@@ -96,7 +96,7 @@ pub const K5: &str = "crossing-answer 1\n\
     leaf 1 1 0 1\n\
     end\n";
 
-// K5 and two edges far from it, with a weak leaf.
+/// K5 and two edges far from it, with a weak leaf.
 pub const K5_AND_TWO: &str = "crossing-answer 1\n\
     graph 9 12\n\
     loops 0\n\
@@ -172,7 +172,7 @@ pub const K5_AND_TWO: &str = "crossing-answer 1\n\
     leaf 1 0\n\
     end\n";
 
-// A graph without nodes.
+/// A graph without nodes.
 pub const EMPTY: &str = "crossing-answer 1\n\
     graph 0 0\n\
     loops 0\n\
