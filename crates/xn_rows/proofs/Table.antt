@@ -1,10 +1,10 @@
 -- The table of pairs: what one entry more, or one list more, makes of the state.
-use Rattle.std.proofs.Common.{◌≡◌, ◌≢◌, ℕ, ◌+◌, ◌*◌, ◌<◌, ◌≤◌, inl, inr, Bool, true, false, ◌&&◌, cond, eqb, ltb, List, [], ◌∷◌, length, map, refl, sym, subst, ap, ◌∙◌, arith, get_or, get_or-set_other, get_or-set_same, length-set, set, mul-le-mul_left}
-use Rattle.std.specs.Prelude.{Option, Some, None, max, min}
-use Rattle.std.proofs.lemmas.Bool.{cases_Bool, cases_eq, cases_order, cond-false, eq-eqb, eqb-true, ne_eqb, and_parts, lt-ltb, ltb-true, both_ways}
+use Rattle.std.proofs.Common.{◌≡◌, ◌≢◌, ℕ, ◌+◌, ◌*◌, ◌<◌, ◌≤◌, inl, inr, Bool, true, ◌&&◌, cond, eqb, ltb, List, [], length, refl, sym, subst, ap, ◌∙◌, arith, get_or, get_or-set_other, get_or-set_same, set, mul-le-mul_left}
+use Rattle.std.specs.Prelude.{Option, None}
+use Rattle.std.proofs.lemmas.Bool.{cases_Bool, cases_eq, cases_order, eq-eqb, eqb-true, ne_eqb, and_parts, lt-ltb, ltb-true, both_ways}
 use Rattle.xn_model.specs.Graph.{Graph}
 use Rattle.xn_kinds.specs.State.{State}
-use Rattle.xn_rows.specs.Given.{Situation, entry_in, pair_place, situation_of, state_of}
+use Rattle.xn_rows.specs.Given.{entry_in, pair_place, situation_of, state_of}
 use Rattle.xn_rows.specs.Steps.{with_entry}
 
 row_below : (m a e : ℕ) → a < e → m * (a + 1) ≤ m * e

@@ -1,5 +1,5 @@
-use Rattle.std.proofs.Common.{◌≡◌, [], length}
-use Rattle.std.specs.Prelude.{replicate, vec_len}
+use Rattle.std.proofs.Common.{◌≡◌, []}
+use Rattle.std.specs.Prelude.{replicate}
 use Rattle.xn_list.specs.Lists.{lists_of}
 use Rattle.xn_rows.proofs.states.empty_lists.Given as goal
 

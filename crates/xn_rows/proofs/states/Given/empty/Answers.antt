@@ -1,9 +1,6 @@
-use Rattle.std.proofs.Common.{◌≡◌, ◌*◌, ◌∙◌, [], ap, length, rules, subst, sym}
+use Rattle.std.proofs.Common.{◌≡◌, ◌*◌, rules}
 use Rattle.std.specs.Prelude.{None, replicate}
-use Rattle.xn_list.specs.Lists.{lists_of}
-use Rattle.xn_kinds.specs.State.{empty_state}
-use Rattle.xn_rows.specs.Given.{situation_of, state_of}
-use Rattle.xn_rows.proofs.Changed.{Becomes, empty_given}
+use Rattle.xn_rows.proofs.Changed.{empty_given}
 use Rattle.xn_rows.proofs.states.Given.empty.Goals as goal
 
 pub invariant_of-result : goal.invariant_of-result

@@ -1,7 +1,6 @@
-use Rattle.std.proofs.Common.{◌≡◌, ◌∙◌, ap, set, subst, sym}
+use Rattle.std.proofs.Common.{◌∙◌, ap}
 use Rattle.std.proofs.lemmas.Result.{err_from_is_err_and}
-use Rattle.xn_list.specs.Lists.{lists_of}
-use Rattle.xn_rows.specs.Given.{IsGiven, situation_of}
+use Rattle.xn_rows.specs.Given.{situation_of}
 use Rattle.xn_rows.proofs.Changed.{placed_given, same_lists}
 use Rattle.xn_rows.proofs.states.Given.place.Goals as goal
 

@@ -1,4 +1,3 @@
-use Rattle.std.proofs.Common.{arith, ◌<◌, length}
 use Rattle.xn_list.specs.Lists.{lists_of}
 use Rattle.xn_rows.specs.Given.{situation_of}
 use Rattle.xn_rows.proofs.Changed.{undecided_given}
