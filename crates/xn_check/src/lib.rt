@@ -1,0 +1,4 @@
+//! The checker of answers.
+#![tactic(auto)]
+
+pub mod laws;
