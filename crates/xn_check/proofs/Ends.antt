@@ -1,7 +1,9 @@
 -- An accepted text has a drawing and a proof.
-use Rattle.std.proofs.Common.{◌≡◌, ℕ, inl, inr, Bool, true, false, cond, List, [], ◌∷◌, Result, Ok, Err, refl, sym, subst, ap, ◌∙◌}
+use Rattle.std.proofs.Common.{◌≡◌, ℕ, inl, inr, Bool, true, false, cond, List, [], ◌∷◌, Result, Ok, Err, refl, sym, subst, ap, ◌∙◌, arith}
 use Rattle.std.proofs.lemmas.List.Elements.{All-nil}
+use Rattle.xn_model.specs.Drawing.{order_of}
 use Rattle.xn_model.specs.Graph.{Graph}
+use Rattle.xn_model.specs.Lists.{at}
 use Rattle.xn_kinds.specs.Row.{RowHolds}
 use Rattle.xn_kinds.specs.declared.flaws.Flaw.{Flaw}
 use Rattle.xn_text.specs.Pieces.{words_of}
@@ -11,7 +13,8 @@ use Rattle.xn_proof.proofs.Steps.{bind_ok}
 use Rattle.xn_proof.specs.declared.item.Item.{Item}
 use Rattle.xn_proof.specs.declared.places.Place.{Place}
 use Rattle.xn_proof.specs.declared.places.Place.TheVariants as place
-use Rattle.xn_check.specs.Laws.{AcceptedHasProof, HasProofOf}
+use Rattle.xn_sound.specs.Laws.{AcceptedProofsBound}
+use Rattle.xn_check.specs.Laws.{AcceptedHasProof, AcceptedTextBounds, HasProofOf}
 use Rattle.xn_check.specs.Meaning.{Agrees}
 use Rattle.xn_check.specs.Said.{Said, nothing_said, said}
 use Rattle.xn_check.specs.Verdict.{AtEnd, Judges, OnLine, Outcome}
@@ -82,3 +85,10 @@ judged g loops (line ∷ lines) at s v j known =
 pub accepted_has_proof : AcceptedHasProof
 accepted_has_proof g loops text lower upper verdict =
     judged g loops (text_lines text) start_state nothing_said (lower, upper) verdict (record { rows_hold = All-nil (RowHolds g); start = refl })
+
+pub accepted_text_bounds : AcceptedProofsBound → AcceptedTextBounds
+accepted_text_bounds bounds g loops text lower upper is_graph verdict =
+    let p = accepted_has_proof g loops text lower upper verdict in (
+      bounds g lower p.rows p.tree is_graph p.accepted,
+      (order_of g p.lists, at p.next, p.drawing.drawing, omega (arith, p.crossings)),
+    )
