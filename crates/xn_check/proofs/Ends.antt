@@ -17,7 +17,7 @@ use Rattle.xn_sound.specs.Laws.{AcceptedProofsBound}
 use Rattle.xn_check.specs.Laws.{AcceptedHasProof, AcceptedTextBounds, HasProofOf}
 use Rattle.xn_check.specs.Meaning.{Agrees}
 use Rattle.xn_check.specs.Said.{Said, nothing_said, said}
-use Rattle.xn_check.specs.Verdict.{AtEnd, Judges, OnLine, Outcome}
+use Rattle.xn_check.specs.Verdict.{AtEnd, Judges, OnLine}
 use Rattle.xn_check.proofs.Stages.{Stage, step}
 
 -- ---- the end
