@@ -206,3 +206,6 @@ fn go_on(given: &mut Given, path: &mut Vec<Choice>) -> bool
     }
     false
 }
+
+#[cfg(test)]
+mod tests;
