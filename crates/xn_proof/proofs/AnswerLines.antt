@@ -19,7 +19,7 @@ use Rattle.xn_proof.specs.declared.item.Item.TheVariants as item
 use Rattle.xn_proof.specs.declared.places.Block.{Block}
 use Rattle.xn_proof.specs.declared.places.Place.{Place}
 use Rattle.xn_proof.specs.declared.places.Place.TheVariants as place
-use Rattle.xn_proof.specs.Forms.{Line, bounds_items, drawing_items, evidence_items, graph_items, items_of, lines_at, node_item, overs_from, paths_from, row_items, rows_from, rows_items, start_item, start_paths, start_state, text_lines, tree_items, up_to_end}
+use Rattle.xn_proof.specs.Forms.{TextLine, bounds_items, drawing_items, evidence_items, graph_items, items_of, lines_at, node_item, overs_from, paths_from, row_items, rows_from, rows_items, start_item, start_paths, start_state, text_lines, tree_items, up_to_end}
 use Rattle.xn_proof.specs.Fronts.{front_at}
 use Rattle.xn_proof.specs.Proofs.{after_node, answer_of, evidence_at, node_of, nodes_at, nothing_at, over_at, overs_at, path_at, paths_of, proof_at, row_at, start_of}
 use Rattle.xn_proof.specs.Ranges.{list_form, no_form, one_form, over_form}
@@ -245,7 +245,7 @@ answer_says text =
     proof_says (length f.0.graph.ends) (front_items f.0) f.1 ∙ chain (proof_at (length f.0.graph.ends) f.1) _ (with_proof f.0) K (λ p is_p.
     ap (λ (l : List Item). Ok l) (regrouped (graph_items f.0.graph f.0.loops) (bounds_items f.0.lower f.0.upper f.0.spent f.0.budget) (drawing_items f.0.drawing) (item.Drawn ∷ []) (rows_items p.0 ++ tree_items p.1))))
 
-abbrev pub bare : ℕ × List ℕ × Bool → Line
+abbrev pub bare : ℕ × List ℕ × Bool → TextLine
 bare l = (l.1, l.2)
 
 length-map : (lines : List (ℕ × List ℕ × Bool)) → length (map bare lines) ≡ length lines

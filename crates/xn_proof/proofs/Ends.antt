@@ -11,7 +11,7 @@ use Rattle.xn_proof.specs.declared.item.Item.TheVariants as item
 use Rattle.xn_proof.specs.declared.places.Block.{Block}
 use Rattle.xn_proof.specs.declared.places.Place.{Place}
 use Rattle.xn_proof.specs.declared.places.Place.TheVariants as place
-use Rattle.xn_proof.specs.Forms.{Line, State, alongs_from, edges_from, ends_with_end, is_end, is_end_item, lines_at, next_at, node_item, overs_from, paths_from, rows_from, rule_at, start_item, start_paths, turns_from, words_at}
+use Rattle.xn_proof.specs.Forms.{TextLine, State, alongs_from, edges_from, ends_with_end, is_end, is_end_item, lines_at, next_at, node_item, overs_from, paths_from, rows_from, rule_at, start_item, start_paths, turns_from, words_at}
 use Rattle.xn_proof.specs.Proofs.{node_of, start_of}
 use Rattle.xn_proof.specs.Ranges.{edge_form, effort_form, just_form, list_form, no_form, one_form, over_form, two_form}
 use Rattle.xn_proof.specs.Reading.{◌>>=◌, keyed_form, syntax, trailing}
@@ -74,7 +74,7 @@ words_fit (place.Tree m rows) i words x is = step_fits (keyed_form (codes "tree"
 words_fit (place.Node m rows) i words x is = step_fits (node_of m rows i words) (λ n. node_item m rows n) x (node_on m rows) is
 words_fit place.Nothing i words x is = absurd cc
 
-rule_fits : (p : Place) (i : ℕ) (line : Line) (x : Item × Place) → rule_at p i line ≡ Ok x → is_end x.1 ≡ is_end_item x.0
+rule_fits : (p : Place) (i : ℕ) (line : TextLine) (x : Item × Place) → rule_at p i line ≡ Ok x → is_end x.1 ≡ is_end_item x.0
 rule_fits p i line x is = fits (is_end p) line.1 is
   where
     fits : (b c : Bool) → cond b (Err (trailing i)) (cond c (words_at p i (words_of line.0)) (Err (syntax i))) ≡ Ok x → is_end x.1 ≡ is_end_item x.0
@@ -82,7 +82,7 @@ rule_fits p i line x is = fits (is_end p) line.1 is
     fits false true h = words_fit p i (words_of line.0) x h
     fits false false h = absurd cc
 
-pub ends_so : (s t : State) (lines : List Line) (items : List Item) → lines_at s lines ≡ Ok (items, t) → is_end t.1 ≡ ends_with_end (is_end s.1) items
+pub ends_so : (s t : State) (lines : List TextLine) (items : List Item) → lines_at s lines ≡ Ok (items, t) → is_end t.1 ≡ ends_with_end (is_end s.1) items
 ends_so s t [] items is = subst (λ (p : List Item × State). is_end p.1.1 ≡ ends_with_end (is_end s.1) p.0) (ok_is ([], s) (items, t) is) refl
 ends_so s t (l ∷ lines) items is =
     let a = bind_ok (next_at s l) (λ first. lines_at first.1 lines >>= λ others. Ok (first.0 ∷ others.0, others.1)) (items, t) is in

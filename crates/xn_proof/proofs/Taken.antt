@@ -2,11 +2,11 @@
 use Rattle.std.proofs.Common.{◌≡◌, List, [], ◌∷◌, ◌++◌, Result, Ok, refl, sym, ap, ◌∙◌, subst}
 use Rattle.xn_kinds.specs.declared.flaws.Flaw.{Flaw}
 use Rattle.xn_proof.specs.declared.item.Item.{Item}
-use Rattle.xn_proof.specs.Forms.{Line, State, lines_at, next_at}
+use Rattle.xn_proof.specs.Forms.{TextLine, State, lines_at, next_at}
 use Rattle.xn_proof.specs.Reading.{◌>>=◌}
 use Rattle.xn_proof.proofs.Steps.{bind_ok, ok, ok_is}
 
-pub one_more_line : (s mid t : State) (lines : List Line) (items : List Item) (line : Line) (x : Item) → lines_at s lines ≡ Ok (items, mid) → next_at mid line ≡ Ok (x, t) →
+pub one_more_line : (s mid t : State) (lines : List TextLine) (items : List Item) (line : TextLine) (x : Item) → lines_at s lines ≡ Ok (items, mid) → next_at mid line ≡ Ok (x, t) →
     lines_at s (lines ++ line ∷ []) ≡ Ok (items ++ x ∷ [], t)
 one_more_line s mid t [] items line x taken next =
     let P : List Item × State → Type 0 = λ p. next_at p.1 line ≡ Ok (x, t) → lines_at s (line ∷ []) ≡ Ok (p.0 ++ x ∷ [], t) in

@@ -108,11 +108,11 @@ is_end place.Nothing = true
 is_end p = false
 
 -- a line without the byte 10, and whether it has that byte at its end
-abbrev pub Line : Type 0
-Line = List ℕ × Bool
+abbrev pub TextLine : Type 0
+TextLine = List ℕ × Bool
 
 -- what a line at a place says, and the place after it: behind the end any line is one too many
-abbrev pub rule_at : Place → ℕ → Line → Result (Item × Place) Flaw
+abbrev pub rule_at : Place → ℕ → TextLine → Result (Item × Place) Flaw
 rule_at p i line = if is_end p then Err (trailing i) else if line.1 then words_at p i (words_of line.0) else Err (syntax i)
 
 -- ---- lines so far
@@ -125,11 +125,11 @@ abbrev pub start_state : State
 start_state = (1, place.Header)
 
 -- what the next line says, and the state after it
-abbrev pub next_at : State → Line → Result (Item × State) Flaw
+abbrev pub next_at : State → TextLine → Result (Item × State) Flaw
 next_at s line = rule_at s.1 s.0 line >>= λ x. Ok (x.0, (min (s.0 + 1) (2 ^ 64 - 1), x.1))
 
 -- what lines say one after the other, and the state after them
-abbrev pub lines_at : State → List Line → Result (List Item × State) Flaw
+abbrev pub lines_at : State → List TextLine → Result (List Item × State) Flaw
 lines_at s [] = Ok ([], s)
 lines_at s (line ∷ lines) = do
   first ← next_at s line
@@ -137,7 +137,7 @@ lines_at s (line ∷ lines) = do
   Ok (first.0 ∷ others.0, others.1)
 
 -- a state stands for lines, each of which keeps its rule after those before it, and for what they say
-abbrev pub StandsFor : State → List Line → List Item → Type 0
+abbrev pub StandsFor : State → List TextLine → List Item → Type 0
 StandsFor s lines items = lines_at start_state lines ≡ Ok (items, s)
 
 -- the last of the items is the end of an answer; of no items it is as said
@@ -204,7 +204,7 @@ items_of a =
     ++ (drawing_items a.drawing ++ (item.Drawn ∷ (rows_items a.rows ++ tree_items a.tree))))
 
 -- the lines of a text
-abbrev pub text_lines : List ℕ → List Line
+abbrev pub text_lines : List ℕ → List TextLine
 text_lines text = map (λ l. (l.1, l.2)) (lines_of (1, text))
 
 -- what lines say where they come to the end, and the flaw of a missing line else

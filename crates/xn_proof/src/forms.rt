@@ -1,9 +1,11 @@
 // An answer taken line by line.
 use crate::flaw::AnswerErr;
 use crate::item::Item;
-use crate::places::{Place, is_end, rule_at};
+use crate::places::{Place, is_end};
+use crate::rules::rule_at;
 use std::alloc::Global;
 use std::marker::Model;
+use xn_text::Line;
 
 /// Reads the lines of an answer one by one, and keeps none of them.
 ///
@@ -28,7 +30,7 @@ impl Model for Forms {
 
 impl Forms {
     ghost use Rattle.std.specs.Prelude.{◌≡◌, List, [], ◌∷◌, ◌++◌, IfOk, false};
-    ghost use Rattle.xn_proof.specs.Forms.{Line, StandsFor, Takes, ends_with_end, is_end, next_at, start_state};
+    ghost use Rattle.xn_proof.specs.Forms.{TextLine, StandsFor, Takes, ends_with_end, is_end, next_at, start_state};
     ghost use Rattle.xn_proof.specs.declared.item.Item.{Item};
 
     /// No line was taken so far. No memory is taken.
@@ -47,11 +49,17 @@ impl Forms {
     /// end. After a refusal, or where memory was wanting, the lines taken so far are as before.
     pub fn line(&mut self, alloc: Global, bytes: &[u8], ended: bool) -> Result<Item, AnswerErr>
         ensures takes { Takes result self.old self.new (next_at self.old (bytes.now, ended)) }
-        ensures stands { (lines : List Line) (items : List Item) → StandsFor self.old lines items →
+        ensures stands { (lines : List TextLine) (items : List Item) → StandsFor self.old lines items →
             IfOk result (λ item. StandsFor self.new (lines ++ (bytes.now, ended) ∷ []) (items ++ item ∷ [])) }
     {
-        let (item, place) = rule_at(alloc, self.place, self.number, bytes, ended)?;
-        self.number = self.number.saturating_add(1);
+        let number = self.number;
+        let line = Line {
+            number,
+            bytes,
+            ended,
+        };
+        let (item, place) = rule_at(alloc, self.place, line)?;
+        self.number = number.saturating_add(1);
         self.place = place;
         Ok(item)
     }
@@ -59,7 +67,7 @@ impl Forms {
     /// Whether the last line taken was the line `end`. No memory is taken.
     pub fn done(&self) -> bool
         ensures place { result ≡ is_end self.now.1 }
-        ensures stands { (lines : List Line) (items : List Item) → StandsFor self.now lines items → result ≡ ends_with_end false items }
+        ensures stands { (lines : List TextLine) (items : List Item) → StandsFor self.now lines items → result ≡ ends_with_end false items }
     {
         is_end(self.place)
     }

@@ -14,6 +14,7 @@ mod ranges;
 mod reader;
 mod refusal;
 mod rows;
+mod rules;
 mod tree;
 
 pub use answer::{read_answer, read_proof};
