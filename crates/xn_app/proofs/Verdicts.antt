@@ -14,8 +14,6 @@ use Rattle.xn_proof.specs.declared.front.Front.{Front}
 use Rattle.xn_proof.specs.Fronts.{front_at}
 use Rattle.xn_proof.specs.Proofs.{answer_of, proof_at}
 use Rattle.xn_proof.specs.Reading.{◌>>=◌, Left}
-use Rattle.xn_proof.specs.Spelling.{text_of}
-use Rattle.xn_proof.specs.WellFormed.{WellFormed}
 use Rattle.xn_proof.proofs.AnswerTexts.{answer_takes, spelled_is_read}
 use Rattle.xn_proof.proofs.Steps.{bind_ok, ok_is}
 use Rattle.xn_app.specs.Verdict.{AfterDrawn, AfterFront, DrawnFails, HasProof, IsDrawn, SpellsDrawing, Verdict}
@@ -71,7 +69,7 @@ spelled_are_seen text seen h =
 
 -- a drawing with its number of crossings doesn't fail
 drawn_stands : (f : Front) (seen : Seen) (kind : FlawKind) → IsLimitedGraph f.graph → IsDrawn f seen → DrawnFails f kind → ⊥
-drawn_stands f seen (Draw flaw) limited drawn fails = no_flaw f.graph f.drawing.orders f.drawing.next limited.is_graph drawn.is_seen.0 flaw fails
+drawn_stands f seen (Draw flaw) limited drawn fails = no_flaw f.graph f.drawing.orders f.drawing.next drawn.is_seen.0 flaw fails
 drawn_stands f seen (Count said counted) limited drawn fails =
     fails.differ (fails.said_is ∙ drawn.count ∙ ap (λ s. s.crossings) drawn.is_seen.1 ∙ sym fails.counted_is)
 drawn_stands f seen Syntax limited drawn fails = fails

@@ -194,12 +194,14 @@ proof_takes m few s p e =
     let first : s.1 ≡ line (codes "rows") (length r.0.0 ∷ []) ++ c.0.1.1 = subst (λ k. s.1 ≡ line (codes "rows") (k ∷ []) ++ c.0.1.1) (sym long) count.0 in
     let end : t.0.1.1 ≡ nodes_text n.0.0 = nodes.0 ∙ ap (λ (l : List ℕ). nodes_text n.0.0 ++ l) none ∙ append-nil (nodes_text n.0.0) in
     let whole : s.1 ≡ proof_text r.0.0 n.0.0 = first ∙ ap (λ (l : List ℕ). line (codes "rows") (length r.0.0 ∷ []) ++ l) (rows.text_is ∙ ap (λ (l : List ℕ). each row_text r.0.0 ++ l) (tree.0 ∙ ap (λ (l : List ℕ). line (codes "tree") [] ++ l) end)) in
-    subst (λ (q : List Row × List Node). (s.1 ≡ proof_text q.0 q.1) × IsProofText m q.0 q.1) (ok_is (r.0.0, n.0.0) p u.2)
-    (whole, record {
-      few = omega (arith, few_rows, long);
-      rows_fit = rows.all;
-      tree_fits = subst (λ k. All (IsNodeText m k) n.0.0) (sym long) nodes.1;
-    })
+    subst (λ (q : List Row × List Node). (s.1 ≡ proof_text q.0 q.1) × IsProofText m q.0 q.1) (ok_is (r.0.0, n.0.0) p u.2) (
+      whole,
+      record {
+        few = omega (arith, few_rows, long);
+        rows_fit = rows.all;
+        tree_fits = subst (λ k. All (IsNodeText m k) n.0.0) (sym long) nodes.1;
+      },
+    )
 
 -- what follows the end decides
 abbrev then_nothing : {A : Type 0} → ℕ → List ℕ → A → Result A Flaw

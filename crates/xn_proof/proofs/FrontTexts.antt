@@ -102,12 +102,17 @@ graph_takes s h after e =
     let whole : s.1 ≡ (line (codes "crossing-answer") (1 ∷ []) ++ (line (codes "graph") (g.0.0.0 ∷ length m.0.0 ∷ []) ++ (line (codes "loops") (l.0.0 ∷ []) ++ each edge_line m.0.0))) ++ m.0.1.1 =
     subst (λ k. s.1 ≡ (line (codes "crossing-answer") (1 ∷ []) ++ (line (codes "graph") (g.0.0.0 ∷ k ∷ []) ++ (line (codes "loops") (l.0.0 ∷ []) ++ each edge_line m.0.0))) ++ m.0.1.1) (sym count)
     (four_pieces s.1 (line (codes "crossing-answer") (1 ∷ [])) a.0.1.1 (line (codes "graph") (g.0.0.0 ∷ g.0.0.1 ∷ [])) g.0.1.1 (line (codes "loops") (l.0.0 ∷ [])) l.0.1.1 (each edge_line m.0.0) m.0.1.1 first.0 second.0 third.0 fourth.text_is) in
-    subst (λ (r : (Graph × ℕ) × Left). (s.1 ≡ graph_text r.0.0 r.0.1 ++ r.1.1) × IsGraphText r.0) (ok_is ((graph_of g.0.0.0 m.0.0, l.0.0), m.0.1) (h, after) m.2)
-    (whole, (record {
-      is_graph = IsGraph-from_each g.0.0.0 m.0.0 (λ e low. fourth.all e (0, 0) low);
-      few_nodes = few;
-      few_edges = omega (arith, few_edges, count);
-    }, omega (arith, loops)))
+    subst (λ (r : (Graph × ℕ) × Left). (s.1 ≡ graph_text r.0.0 r.0.1 ++ r.1.1) × IsGraphText r.0) (ok_is ((graph_of g.0.0.0 m.0.0, l.0.0), m.0.1) (h, after) m.2) (
+      whole,
+      (
+        record {
+          is_graph = IsGraph-from_each g.0.0.0 m.0.0 (λ e low. fourth.all e (0, 0) low);
+          few_nodes = few;
+          few_edges = omega (arith, few_edges, count);
+        },
+        omega (arith, loops),
+      ),
+    )
 
 graph_again : (i : ℕ) (h : Graph × ℕ) (rest : List ℕ) → IsGraphText h → (j : ℕ) × (graph_at (i, graph_text h.0 h.1 ++ rest) ≡ Ok (h, (j, rest)))
 unfolding graph_at
@@ -144,9 +149,10 @@ bounds_takes s b after e =
     let m = bind_ok (form_at (codes "effort") effort_form l.0.1) (λ m. Ok ((l.0.0, m.0), m.1)) (b, after) l.2 in
     let first = bounds_item.takes s l.0.0 l.0.1 l.1 in
     let second = effort_item.takes l.0.1 m.0.0 m.0.1 m.1 in
-    subst (λ (r : ((ℕ × ℕ) × (ℕ × ℕ)) × Left). (s.1 ≡ bounds_spelled r.0 ++ r.1.1) × BoundsFit r.0) (ok_is ((l.0.0, m.0.0), m.0.1) (b, after) m.2)
-    (two_pieces s.1 (line (codes "bounds") (l.0.0.0 ∷ l.0.0.1 ∷ [])) l.0.1.1 (line (codes "effort") (m.0.0.0 ∷ m.0.0.1 ∷ [])) m.0.1.1 first.0 second.0,
-    record { lower_small = first.1.0; upper_small = first.1.1; spent_small = second.1.0; budget_small = second.1.1 })
+    subst (λ (r : ((ℕ × ℕ) × (ℕ × ℕ)) × Left). (s.1 ≡ bounds_spelled r.0 ++ r.1.1) × BoundsFit r.0) (ok_is ((l.0.0, m.0.0), m.0.1) (b, after) m.2) (
+      two_pieces s.1 (line (codes "bounds") (l.0.0.0 ∷ l.0.0.1 ∷ [])) l.0.1.1 (line (codes "effort") (m.0.0.0 ∷ m.0.0.1 ∷ [])) m.0.1.1 first.0 second.0,
+      record { lower_small = first.1.0; upper_small = first.1.1; spent_small = second.1.0; budget_small = second.1.1 },
+    )
 
 bounds_again : (i : ℕ) (b : (ℕ × ℕ) × (ℕ × ℕ)) (rest : List ℕ) → BoundsFit b → (j : ℕ) × (bounds_at (i, bounds_spelled b ++ rest) ≡ Ok (b, (j, rest)))
 unfolding bounds_at
@@ -217,14 +223,15 @@ drawing_takes m s d after e =
     let count = turns.count in
     let long = length-next_of t.0.0 in
     let found : Drawing = record { orders = l.0.0; next = next_of t.0.0 } in
-    subst (λ (r : Drawing × Left). (s.1 ≡ (each along_line r.0.orders ++ each turn_line (turns_of r.0.next)) ++ r.1.1) × IsDrawingText m r.0) (ok_is (found, t.0.1) (d, after) t.2)
-    (subst (λ us. s.1 ≡ (each along_line l.0.0 ++ each turn_line us) ++ t.0.1.1) (sym (turns_of-next_of t.0.0)) (two_pieces s.1 (each along_line l.0.0) l.0.1.1 (each turn_line t.0.0) t.0.1.1 lists.text_is turns.text_is),
-    record {
-      lists_fit = lists.count;
-      lists = lists.all;
-      next_fits = omega (arith, count, long);
-      next_small = next_of_small t.0.0 turns.all;
-    })
+    subst (λ (r : Drawing × Left). (s.1 ≡ (each along_line r.0.orders ++ each turn_line (turns_of r.0.next)) ++ r.1.1) × IsDrawingText m r.0) (ok_is (found, t.0.1) (d, after) t.2) (
+      subst (λ us. s.1 ≡ (each along_line l.0.0 ++ each turn_line us) ++ t.0.1.1) (sym (turns_of-next_of t.0.0)) (two_pieces s.1 (each along_line l.0.0) l.0.1.1 (each turn_line t.0.0) t.0.1.1 lists.text_is turns.text_is),
+      record {
+        lists_fit = lists.count;
+        lists = lists.all;
+        next_fits = omega (arith, count, long);
+        next_small = next_of_small t.0.0 turns.all;
+      },
+    )
 
 drawing_again : (m i : ℕ) (d : Drawing) (rest : List ℕ) → IsDrawingText m d → (j : ℕ) × (drawing_at m (i, (each along_line d.orders ++ each turn_line (turns_of d.next)) ++ rest) ≡ Ok (d, (j, rest)))
 unfolding drawing_at

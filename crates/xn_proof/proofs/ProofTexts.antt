@@ -254,9 +254,10 @@ row_takes m j low s row after e =
     let long = overs.long in
     let first : s.1 ≡ line (codes "row") (length o.0.0.0 ∷ []) ++ c.0.1.1 = subst (λ k. s.1 ≡ line (codes "row") (k ∷ []) ++ c.0.1.1) (sym long) count.0 in
     let found : Row = record { edges = o.0.0.0; orders = o.0.0.1; evidence = v.0.0 } in
-    subst (λ (r : Row × Left). (s.1 ≡ row_text r.0 ++ r.1.1) × IsRowText m r.0) (ok_is (found, v.0.1) (row, after) v.2)
-    (three_pieces s.1 (line (codes "row") (length o.0.0.0 ∷ [])) c.0.1.1 (each over_line (overs_of o.0.0.0 o.0.0.1)) o.0.1.1 (evidence_text v.0.0) v.0.1.1 first overs.text_is evidence.0,
-    record { few = omega (arith, few, long); edges = overs.edges; lists_fit = overs.lists_fit; lists = overs.lists; evidence = evidence.1 })
+    subst (λ (r : Row × Left). (s.1 ≡ row_text r.0 ++ r.1.1) × IsRowText m r.0) (ok_is (found, v.0.1) (row, after) v.2) (
+      three_pieces s.1 (line (codes "row") (length o.0.0.0 ∷ [])) c.0.1.1 (each over_line (overs_of o.0.0.0 o.0.0.1)) o.0.1.1 (evidence_text v.0.0) v.0.1.1 first overs.text_is evidence.0,
+      record { few = omega (arith, few, long); edges = overs.edges; lists_fit = overs.lists_fit; lists = overs.lists; evidence = evidence.1 },
+    )
 
 row_again : (m j : ℕ) → m < 2 ^ 64 → (i : ℕ) (row : Row) (rest : List ℕ) → IsRowText m row → (n : ℕ) × (row_at m j (i, row_text row ++ rest) ≡ Ok (row, (n, rest)))
 unfolding row_at overs_at
@@ -268,9 +269,11 @@ row_again m j low i row rest fits =
     let read : many_at over_at 0 (length row.edges) (count.0, overs_text ++ (evidence_text row.evidence ++ rest)) ≡ Ok (overs_of row.edges row.orders, (many.0, evidence_text row.evidence ++ rest)) =
     subst (λ k. many_at over_at 0 k (count.0, overs_text ++ (evidence_text row.evidence ++ rest)) ≡ Ok (overs_of row.edges row.orders, (many.0, evidence_text row.evidence ++ rest))) has.count many.1 in
     let evidence = evidence_again many.0 row.evidence rest fits.evidence in
-    let with_parts : List ℕ → List (List ℕ) → Result (Row × Left) Flaw = λ edges lists. Ok (record { edges = edges; orders = lists; evidence = row.evidence }, (evidence.0, rest)) in
-    (evidence.0, rw (regroup_three (line (codes "row") (length row.edges ∷ [])) overs_text (evidence_text row.evidence) rest, count.1, read, evidence.1)
-    (ap (λ edges. with_parts edges (map (λ o. o.1) (overs_of row.edges row.orders))) has.firsts ∙ ap (λ lists. with_parts row.edges lists) has.seconds))
+    let with_parts : List ℕ → List (List ℕ) → Result (Row × Left) Flaw = λ edges lists. Ok (record { edges = edges; orders = lists; evidence = row.evidence }, (evidence.0, rest)) in (
+      evidence.0,
+      rw (regroup_three (line (codes "row") (length row.edges ∷ [])) overs_text (evidence_text row.evidence) rest, count.1, read, evidence.1)
+          (ap (λ edges. with_parts edges (map (λ o. o.1) (overs_of row.edges row.orders))) has.firsts ∙ ap (λ lists. with_parts row.edges lists) has.seconds),
+    )
 
 pub row_item : (m : ℕ) → m < 2 ^ 64 → (j : ℕ) → IsItem (row_at m j) row_text (IsRowText m)
 row_item m low j = record { takes = row_takes m j low; again = row_again m j low }

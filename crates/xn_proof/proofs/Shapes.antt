@@ -23,16 +23,16 @@ pub form_item : {X : Type 0} (key : List ℕ) (form : ℕ → List (Option ℕ) 
 unfolding form_at
 form_item key form numbers P is_key is_form = record {
   takes = λ s x after e.
-    let l = bind_ok (numbers_at key s) (λ l. form l.0.0 l.0.1 >>= λ x. Ok (x, l.1)) (x, after) e in
-    let f = bind_ok (form l.0.0.0 l.0.0.1) (λ x. Ok (x, l.0.1)) (x, after) l.2 in
-    let same = ok_is (f.0, l.0.1) (x, after) f.2 in
-    let value : f.0 ≡ x = ap (λ r. r.0) same in
-    let left : l.0.1 ≡ after = ap (λ r. r.1) same in
-    let said = is_form.takes l.0.0.0 l.0.0.1 x (f.1 ∙ ap (λ v. Ok v) value) in
-    let read : numbers_at key s ≡ Ok ((l.0.0.0, map Some (numbers x)), after) = l.1 ∙ ap (λ vs. Ok ((l.0.0.0, vs), l.0.1)) said.0 ∙ ap (λ t. Ok ((l.0.0.0, map Some (numbers x)), t)) left in
-    ((numbers_takes key s l.0.0.0 (numbers x) after read).0, said.1);
+      let l = bind_ok (numbers_at key s) (λ l. form l.0.0 l.0.1 >>= λ x. Ok (x, l.1)) (x, after) e in
+      let f = bind_ok (form l.0.0.0 l.0.0.1) (λ x. Ok (x, l.0.1)) (x, after) l.2 in
+      let same = ok_is (f.0, l.0.1) (x, after) f.2 in
+      let value : f.0 ≡ x = ap (λ r. r.0) same in
+      let left : l.0.1 ≡ after = ap (λ r. r.1) same in
+      let said = is_form.takes l.0.0.0 l.0.0.1 x (f.1 ∙ ap (λ v. Ok v) value) in
+      let read : numbers_at key s ≡ Ok ((l.0.0.0, map Some (numbers x)), after) = l.1 ∙ ap (λ vs. Ok ((l.0.0.0, vs), l.0.1)) said.0 ∙ ap (λ t. Ok ((l.0.0.0, map Some (numbers x)), t)) left in
+      ((numbers_takes key s l.0.0.0 (numbers x) after read).0, said.1);
   again = λ i x rest p.
-    (i + 1, rw (numbers_again key i (numbers x) rest is_key (is_form.small x p), is_form.again i x p) refl);
+      (i + 1, rw (numbers_again key i (numbers x) rest is_key (is_form.small x p), is_form.again i x p) refl);
 }
 
 -- by a form, from the words of a line

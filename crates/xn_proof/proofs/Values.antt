@@ -264,10 +264,10 @@ pub nodes_is : (count : ℕ) → IsForm (nodes_form count) (λ ns. ns) (AreNodes
 unfolding nodes_form
 nodes_is count = record {
   takes = λ i vs ns e.
-    let g = guard (eqb (length vs) count) (syntax i) (each_at (at_most i most_32) vs) ns e in
-    let all = each_is i vs ns g.1 in
-    let long : length vs ≡ count = eqb-true (length vs) count g.0 in
-    (all.0, (sym (ap length all.0 ∙ long_some ns) ∙ long, all.1));
+      let g = guard (eqb (length vs) count) (syntax i) (each_at (at_most i most_32) vs) ns e in
+      let all = each_is i vs ns g.1 in
+      let long : length vs ≡ count = eqb-true (length vs) count g.0 in
+      (all.0, (sym (ap length all.0 ∙ long_some ns) ∙ long, all.1));
   again = λ i ns is. rw (eq-eqb (length (map Some ns)) count (long_some ns ∙ is.0)) (each_again i ns is.1);
   small = λ ns is. wider ns is.1;
 }
@@ -358,13 +358,13 @@ unfolding leaf_form
 leaf_is rows few = record {
   takes = takes;
   again = λ i l is.
-    let half : is_half (Some (length l.1)) (length (map Some (numbers_of l.1))) ≡ true = eq-eqb (2 * length l.1) (length (map Some (numbers_of l.1))) (sym (long_some (numbers_of l.1) ∙ length-numbers_of l.1)) in
-    let low = is.1 in
-    rw (half, at_most_again i most_32 (length l.1) (omega (arith, low)), factor_again i l.0 is.0, parts_again rows i l.1 is.2) refl;
+      let half : is_half (Some (length l.1)) (length (map Some (numbers_of l.1))) ≡ true = eq-eqb (2 * length l.1) (length (map Some (numbers_of l.1))) (sym (long_some (numbers_of l.1) ∙ length-numbers_of l.1)) in
+      let low = is.1 in
+      rw (half, at_most_again i most_32 (length l.1) (omega (arith, low)), factor_again i l.0 is.0, parts_again rows i l.1 is.2) refl;
   small = λ l is.
-    let divisor = is.0.1 in
-    let low = is.1 in
-    one_small l.0 (length l.1 ∷ numbers_of l.1) (omega (arith, divisor)) (one_small (length l.1) (numbers_of l.1) (omega (arith, low)) (numbers_small rows l.1 few is.2));
+      let divisor = is.0.1 in
+      let low = is.1 in
+      one_small l.0 (length l.1 ∷ numbers_of l.1) (omega (arith, divisor)) (one_small (length l.1) (numbers_of l.1) (omega (arith, low)) (numbers_small rows l.1 few is.2));
 }
   where
     takes : (i : ℕ) (vs : List (Option ℕ)) (l : ℕ × List (ℕ × ℕ)) → leaf_form rows i vs ≡ Ok l → (vs ≡ map Some (leaf_numbers l)) × IsLeaf rows l

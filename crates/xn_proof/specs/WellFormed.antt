@@ -46,6 +46,10 @@ IsEvidenceText (Five branch paths) = AreNodes 5 branch × (length paths ≡ 10) 
 IsEvidenceText (ThreeThree branch paths) = AreNodes 6 branch × (length paths ≡ 9) × All (IsList 1000000) paths
 IsEvidenceText (Extension list) = IsList 1000000 list
 
+-- the row has a list for each of its edges
+abbrev pub HasLists : Row → Type 0
+HasLists row = length row.orders ≡ length row.edges
+
 -- a row over at most m edges, with a list for each
 pub record IsRowText (m : ℕ) (row : Row) : Type 0 where
   pub few : length row.edges ≤ m

@@ -3,6 +3,7 @@ ghost use Rattle.std.specs.Prelude.{◌≡◌, ◌≤◌, IfOk, codes};
 ghost use Rattle.xn_proof.specs.Proofs.{answer_of, nothing_at, proof_at};
 ghost use Rattle.xn_proof.specs.Ranges.{no_form, one_form};
 ghost use Rattle.xn_proof.specs.Reading.{Gives, Reads, form_at};
+ghost use Rattle.xn_proof.specs.WellFormed.{WellFormed};
 
 use crate::flaw::{AnswerErr, trailing};
 use crate::front::front_lines;
@@ -60,10 +61,8 @@ pub fn read_proof(
     Ok((Sequence::new(rows), Tree::new(nodes)))
 }
 
-/// What a text says. It refuses at the first line that isn't of its form, has a number outside its range, or is an edge that
-/// joins a node to itself, or at the line after the end.
 #[tactic(auto, unfolding(crate::specs::Proofs::answer_of))]
-pub fn read_answer(alloc: Global, text: &[u8]) -> Result<Answer, AnswerErr>
+fn whole_answer(alloc: Global, text: &[u8]) -> Result<Answer, AnswerErr>
     ensures { Gives (λ answer. answer) result (answer_of text.now) }
 {
     let mut reader = Reader::new(text);
@@ -80,4 +79,14 @@ pub fn read_answer(alloc: Global, text: &[u8]) -> Result<Answer, AnswerErr>
         rows,
         tree,
     })
+}
+
+/// What a text says. It refuses at the first line that isn't of its form, has a number outside its range, or is an edge that
+/// joins a node to itself, or at the line after the end.
+pub fn read_answer(alloc: Global, text: &[u8]) -> Result<Answer, AnswerErr>
+    ensures read { Gives (λ answer. answer) result (answer_of text.now) }
+    ensures well_formed { IfOk result WellFormed }
+{
+    let answer = whole_answer(alloc, text)?;
+    Ok(answer)
 }

@@ -13,7 +13,7 @@ use std::alloc::Global;
 use xn_kinds::{Evidence, Paths};
 use xn_list::Sequence;
 
-// How an evidence begins.
+/// How an evidence begins.
 #[derive(Drop)]
 pub enum Start {
     // Five branch nodes, and ten paths follow.
@@ -55,7 +55,7 @@ fn six(nodes: &[u32]) -> [u32; 6]
     [nodes[0], nodes[1], nodes[2], nodes[3], nodes[4], nodes[5]]
 }
 
-// How an evidence begins, by its first line.
+/// How an evidence begins, by its first line.
 #[tactic(auto, unfolding(crate::specs::Proofs::start_of))]
 pub fn start_line(alloc: Global, number: u64, line: &[u8]) -> Result<Start, AnswerErr>
     ensures { Gives (λ x. x) result (start_of number (words_of line.now)) }
@@ -112,7 +112,7 @@ fn rest_of(alloc: Global, start: Start, reader: &mut Reader) -> Result<Evidence,
     }
 }
 
-// The evidence of a row.
+/// The evidence of a row.
 #[tactic(auto, unfolding(crate::specs::Proofs::evidence_at))]
 pub fn evidence(alloc: Global, reader: &mut Reader) -> Result<Evidence, AnswerErr>
     ensures { Reads (λ x. x) result reader.new (evidence_at reader.old) }

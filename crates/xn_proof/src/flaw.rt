@@ -31,7 +31,7 @@ impl<T: Drop> From<AllocFailed<T>> for AnswerErr {
     }
 }
 
-// The line isn't of its form.
+/// The line isn't of its form.
 pub fn syntax(line: u64) -> AnswerErr
     ensures { result ≡ AnswerErr.Refused (syntax line) }
 {
@@ -41,7 +41,7 @@ pub fn syntax(line: u64) -> AnswerErr
     })
 }
 
-// A number of the line is outside its range.
+/// A number of the line is outside its range.
 pub fn out_of_range(line: u64) -> AnswerErr
     ensures { result ≡ AnswerErr.Refused (out_of_range line) }
 {
@@ -51,7 +51,7 @@ pub fn out_of_range(line: u64) -> AnswerErr
     })
 }
 
-// The edge of the line joins a node to itself.
+/// The edge of the line joins a node to itself.
 pub fn loop_flaw(line: u64, edge: u32) -> AnswerErr
     ensures { result ≡ AnswerErr.Refused (loop_flaw line edge) }
 {
@@ -61,7 +61,7 @@ pub fn loop_flaw(line: u64, edge: u32) -> AnswerErr
     })
 }
 
-// Something stands behind the end.
+/// Something stands behind the end.
 pub fn trailing(line: u64) -> AnswerErr
     ensures { result ≡ AnswerErr.Refused (trailing line) }
 {

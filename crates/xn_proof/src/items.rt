@@ -26,7 +26,7 @@ fn edge_line(
     edge_ends(nodes, edge, number, &values)
 }
 
-// The ends of all edges.
+/// The ends of all edges.
 pub fn edge_lines(
     alloc: Global,
     nodes: u32,
@@ -54,7 +54,7 @@ fn along_line(alloc: Global, edge: u32, reader: &mut Reader) -> Result<Vec<u32>,
     number_list(alloc, 999, number, &values)
 }
 
-// For each edge those that cross it, along it.
+/// For each edge those that cross it, along it.
 pub fn along_lines(
     alloc: Global,
     count: u32,
@@ -71,7 +71,7 @@ pub fn along_lines(
     Ok(lists)
 }
 
-// The number of segments: each edge has one more than its list has entries.
+/// The number of segments: each edge has one more than its list has entries.
 pub fn segments(edges: u32, lists: &[Vec<u32>]) -> u32
     requires few { edges ≤ 1000 }
     requires small { total length (lists_of lists.now) ≤ 999 * edges }
@@ -93,7 +93,7 @@ fn turn_line(alloc: Global, segment: u32, reader: &mut Reader) -> Result<(u32, u
     two_numbers((u32::MAX, u32::MAX), number, &values)
 }
 
-// For each segment what follows its two darts.
+/// For each segment what follows its two darts.
 pub fn turn_lines(
     alloc: Global,
     count: u32,
@@ -108,7 +108,7 @@ pub fn turn_lines(
     Ok(turns)
 }
 
-// The turns in the order of the darts.
+/// The turns in the order of the darts.
 pub fn next_of(alloc: Global, turns: &[(u32, u32)]) -> Result<Vec<u32>, AllocError>
     ensures { IfOk result (λ next. next.items ≡ next_of turns.now) }
 {

@@ -15,7 +15,11 @@ mod reader;
 mod refusal;
 mod rows;
 mod rules;
+#[cfg(test)]
+mod tests;
 mod tree;
+mod writer;
+mod writing;
 
 pub use answer::{read_answer, read_proof};
 pub use flaw::AnswerErr;
@@ -24,3 +28,4 @@ pub use front::{Front, front_lines, read_front};
 pub use item::Item;
 pub use reader::Reader;
 pub use refusal::write_flaw;
+pub use writer::write_answer;

@@ -7,7 +7,7 @@ ghost use Rattle.xn_proof.specs.Reading.{Gives, each_at};
 use crate::flaw::{AnswerErr, loop_flaw, out_of_range, syntax};
 use std::alloc::Global;
 
-// A number from 0 to `most`.
+/// A number from 0 to `most`.
 pub fn at_most(number: u64, most: u64, value: Option<u64>) -> Result<u64, AnswerErr>
     ensures read { Gives (λ n. n) result (at_most number most value) }
     ensures small { IfOk result (λ n. n ≤ most) }
@@ -18,7 +18,7 @@ pub fn at_most(number: u64, most: u64, value: Option<u64>) -> Result<u64, Answer
     }
 }
 
-// A number of 32 bits from 0 to `most`.
+/// A number of 32 bits from 0 to `most`.
 pub fn small(number: u64, most: u32, value: Option<u64>) -> Result<u32, AnswerErr>
     ensures read { Gives (λ n. n) result (at_most number most value) }
     ensures small { IfOk result (λ n. n ≤ most) }
@@ -27,7 +27,7 @@ pub fn small(number: u64, most: u32, value: Option<u64>) -> Result<u32, AnswerEr
     Ok(n as u32)
 }
 
-// A number below the bound.
+/// A number below the bound.
 pub fn below(number: u64, bound: u32, value: Option<u64>) -> Result<u32, AnswerErr>
     ensures read { Gives (λ n. n) result (below number bound value) }
     ensures small { IfOk result (λ n. n < bound) }
@@ -38,7 +38,7 @@ pub fn below(number: u64, bound: u32, value: Option<u64>) -> Result<u32, AnswerE
     }
 }
 
-// A number from 1 to 2^63 - 1.
+/// A number from 1 to 2^63 - 1.
 pub fn factor(number: u64, value: Option<u64>) -> Result<u64, AnswerErr>
     ensures { Gives (λ n. n) result (factor number value) }
 {
@@ -98,7 +98,7 @@ pub fn two_numbers(
     }
 }
 
-// The ends of an edge.
+/// The ends of an edge.
 #[tactic(auto, unfolding(crate::specs::Ranges::edge_form))]
 pub fn edge_ends(
     nodes: u32,
@@ -122,7 +122,7 @@ pub fn edge_ends(
     }
 }
 
-// How much was spent of a budget.
+/// How much was spent of a budget.
 #[tactic(auto, unfolding(crate::specs::Ranges::effort_form))]
 pub fn effort(number: u64, values: &[Option<u64>]) -> Result<(u64, u64), AnswerErr>
     ensures read { Gives (λ x. x) result (effort_form number values.now) }
@@ -138,7 +138,7 @@ pub fn effort(number: u64, values: &[Option<u64>]) -> Result<(u64, u64), AnswerE
     }
 }
 
-// The numbers after their count.
+/// The numbers after their count.
 #[tactic(auto, unfolding(crate::specs::Ranges::counted))]
 pub fn counted<'a>(
     most: usize,
@@ -160,7 +160,7 @@ pub fn counted<'a>(
     Ok(rest)
 }
 
-// A list of numbers of 32 bits, after their count.
+/// A list of numbers of 32 bits, after their count.
 #[tactic(auto, unfolding(crate::specs::Ranges::list_form))]
 pub fn number_list(
     alloc: Global,
@@ -175,7 +175,7 @@ pub fn number_list(
     small_numbers(alloc, number, rest)
 }
 
-// Numbers of 32 bits.
+/// Numbers of 32 bits.
 pub fn small_numbers(
     alloc: Global,
     number: u64,

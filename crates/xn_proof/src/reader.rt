@@ -8,7 +8,7 @@ use std::alloc::Global;
 use std::marker::Model;
 use xn_text::{Lines, WordNumber, Words, word_u64};
 
-// What is left of a text: the number of its first line, and its bytes.
+/// What is left of a text, taken line by line. Contracts see the number of the next line, from 1 on, and the bytes.
 #[derive(Drop)]
 pub struct Reader<'a> {
     number: u64,
@@ -26,27 +26,28 @@ impl<'a> Model for Reader<'a> {
 }
 
 impl<'a> Reader<'a> {
+    /// All of a text. No memory is taken.
     pub fn new(text: &'a [u8]) -> Reader<'a>
         ensures { result ≡ (1, text.now) }
     {
         Reader { number: 1, text }
     }
 
-    // The number of the next line.
+    /// The number of the next line.
     pub fn number(&self) -> u64
         ensures { result ≡ self.now.0 }
     {
         self.number
     }
 
-    // The bytes that are left.
+    /// The bytes that are left.
     pub fn rest(&self) -> &'a [u8]
         ensures { result.now ≡ self.now.1 }
     {
         self.text
     }
 
-    // The next line, which has to be ended, and its number.
+    /// The next line, which has to be ended, and its number.
     pub fn line(&mut self) -> Result<(u64, &'a [u8]), AnswerErr>
         ensures { Reads (λ x. (x.0, x.1.now)) result self.new (line_at self.old) }
     {
@@ -62,7 +63,7 @@ impl<'a> Reader<'a> {
         }
     }
 
-    // The numbers of the next line, which begins with the key, and the line's number.
+    /// The numbers of the next line, which begins with the key, and the line's number.
     #[tactic(auto, unfolding(crate::specs::Reading::numbers_at))]
     pub fn numbers(
         &mut self,
@@ -77,7 +78,7 @@ impl<'a> Reader<'a> {
     }
 }
 
-// The numbers after the first word of a line, which is the key.
+/// The numbers after the first word of a line, which is the key.
 #[tactic(auto, unfolding(crate::specs::Reading::keyed))]
 pub fn keyed_numbers(
     alloc: Global,
@@ -97,7 +98,7 @@ pub fn keyed_numbers(
     values(alloc, number, &mut words)
 }
 
-// Whether the first word of a line is the key.
+/// Whether the first word of a line is the key.
 pub fn has_key(key: &[u8], line: &[u8]) -> bool
     ensures { result ≡ has_key key.now (words_of line.now) }
 {

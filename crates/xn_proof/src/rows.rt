@@ -13,7 +13,7 @@ use std::alloc::Global;
 use xn_kinds::{Orders, Row};
 use xn_list::Sequence;
 
-// An edge, and a list of edges.
+/// An edge, and a list of edges.
 #[tactic(auto, unfolding(crate::specs::Ranges::over_form))]
 pub fn edge_and_list(
     alloc: Global,
@@ -83,7 +83,7 @@ fn row(alloc: Global, edges: u32, place: u32, reader: &mut Reader) -> Result<Row
     })
 }
 
-// So many rows.
+/// So many rows.
 pub fn rows(
     alloc: Global,
     edges: u32,

@@ -86,7 +86,7 @@ fn is_half(count: Option<u64>, length: usize) -> bool
     }
 }
 
-// A node of the tree, or none at the line `end`.
+/// A node of the tree, or none at the line `end`.
 #[tactic(auto, unfolding(crate::specs::Proofs::node_of))]
 pub fn node(
     alloc: Global,
@@ -120,7 +120,7 @@ pub fn node(
     Ok(None)
 }
 
-// The nodes up to the line `end`.
+/// The nodes up to the line `end`.
 pub fn nodes(
     alloc: Global,
     edges: u32,
