@@ -58,7 +58,7 @@ impl Forms {
             bytes,
             ended,
         };
-        let (item, place) = rule_at(alloc, self.place, line)?;
+        let (item, place) = rule_at(alloc, self.place, &line)?;
         self.number = number.saturating_add(1);
         self.place = place;
         Ok(item)

@@ -20,8 +20,8 @@ use std::alloc::{AllocError, Global};
 use xn_list::Sequence;
 use xn_text::Line;
 
-fn header(alloc: Global, line: Line) -> Result<(Item, Place), AnswerErr>
-    ensures read { Gives (λ x. x) result (words_at Place.Header line.number (words_of line.bytes.now)) }
+fn header(alloc: Global, line: &Line) -> Result<(Item, Place), AnswerErr>
+    ensures read { Gives (λ x. x) result (words_at Place.Header line.now.number (words_of line.now.bytes.now)) }
     ensures small { IfOk result (λ x. IsPlace x.1) }
 {
     let values = keyed_numbers(
@@ -34,8 +34,8 @@ fn header(alloc: Global, line: Line) -> Result<(Item, Place), AnswerErr>
     Ok((Item::Header(1), Place::Graph))
 }
 
-fn size(alloc: Global, line: Line) -> Result<(Item, Place), AnswerErr>
-    ensures read { Gives (λ x. x) result (words_at Place.Graph line.number (words_of line.bytes.now)) }
+fn size(alloc: Global, line: &Line) -> Result<(Item, Place), AnswerErr>
+    ensures read { Gives (λ x. x) result (words_at Place.Graph line.now.number (words_of line.now.bytes.now)) }
     ensures small { IfOk result (λ x. IsPlace x.1) }
 {
     let values = keyed_numbers(alloc, b"graph".as_slice(), line.number, line.bytes)?;
@@ -43,9 +43,9 @@ fn size(alloc: Global, line: Line) -> Result<(Item, Place), AnswerErr>
     Ok((Item::Graph { nodes, edges }, Place::Loops { nodes, edges }))
 }
 
-fn loops(alloc: Global, nodes: u32, edges: u32, line: Line) -> Result<(Item, Place), AnswerErr>
+fn loops(alloc: Global, nodes: u32, edges: u32, line: &Line) -> Result<(Item, Place), AnswerErr>
     requires { edges ≤ 1000 }
-    ensures read { Gives (λ x. x) result (words_at (Place.Loops nodes edges) line.number (words_of line.bytes.now)) }
+    ensures read { Gives (λ x. x) result (words_at (Place.Loops nodes edges) line.now.number (words_of line.now.bytes.now)) }
     ensures small { IfOk result (λ x. IsPlace x.1) }
 {
     let values = keyed_numbers(alloc, b"loops".as_slice(), line.number, line.bytes)?;
@@ -58,10 +58,10 @@ fn edge(
     nodes: u32,
     edge: u32,
     more: u32,
-    line: Line,
+    line: &Line,
 ) -> Result<(Item, Place), AnswerErr>
     requires { edge + more < 1000 }
-    ensures read { Gives (λ x. x) result (words_at (Place.Edge nodes edge more) line.number (words_of line.bytes.now)) }
+    ensures read { Gives (λ x. x) result (words_at (Place.Edge nodes edge more) line.now.number (words_of line.now.bytes.now)) }
     ensures small { IfOk result (λ x. IsPlace x.1) }
 {
     let values = keyed_numbers(alloc, b"edge".as_slice(), line.number, line.bytes)?;
@@ -69,9 +69,9 @@ fn edge(
     Ok((Item::Edge(u, v), edges_from(nodes, edge + 1, more)))
 }
 
-fn bounds(alloc: Global, edges: u32, line: Line) -> Result<(Item, Place), AnswerErr>
+fn bounds(alloc: Global, edges: u32, line: &Line) -> Result<(Item, Place), AnswerErr>
     requires { edges ≤ 1000 }
-    ensures read { Gives (λ x. x) result (words_at (Place.Bounds edges) line.number (words_of line.bytes.now)) }
+    ensures read { Gives (λ x. x) result (words_at (Place.Bounds edges) line.now.number (words_of line.now.bytes.now)) }
     ensures small { IfOk result (λ x. IsPlace x.1) }
 {
     let values = keyed_numbers(alloc, b"bounds".as_slice(), line.number, line.bytes)?;
@@ -79,9 +79,9 @@ fn bounds(alloc: Global, edges: u32, line: Line) -> Result<(Item, Place), Answer
     Ok((Item::Bounds { lower, upper }, Place::Effort { edges }))
 }
 
-fn effort_at(alloc: Global, edges: u32, line: Line) -> Result<(Item, Place), AnswerErr>
+fn effort_at(alloc: Global, edges: u32, line: &Line) -> Result<(Item, Place), AnswerErr>
     requires { edges ≤ 1000 }
-    ensures read { Gives (λ x. x) result (words_at (Place.Effort edges) line.number (words_of line.bytes.now)) }
+    ensures read { Gives (λ x. x) result (words_at (Place.Effort edges) line.now.number (words_of line.now.bytes.now)) }
     ensures small { IfOk result (λ x. IsPlace x.1) }
 {
     let values = keyed_numbers(alloc, b"effort".as_slice(), line.number, line.bytes)?;
@@ -97,10 +97,10 @@ fn along(
     edges: u32,
     segments: u32,
     more: u32,
-    line: Line,
+    line: &Line,
 ) -> Result<(Item, Place), AnswerErr>
     requires { segments + 999 * (more + 1) ≤ 1000000 }
-    ensures read { Gives (λ x. x) result (words_at (Place.Along edges segments more) line.number (words_of line.bytes.now)) }
+    ensures read { Gives (λ x. x) result (words_at (Place.Along edges segments more) line.now.number (words_of line.now.bytes.now)) }
     ensures small { IfOk result (λ x. IsPlace x.1) }
 {
     let values = keyed_numbers(alloc, b"along".as_slice(), line.number, line.bytes)?;
@@ -109,8 +109,8 @@ fn along(
     Ok((Item::Along(Sequence::new(list)), place))
 }
 
-fn turn(alloc: Global, edges: u32, more: u32, line: Line) -> Result<(Item, Place), AnswerErr>
-    ensures read { Gives (λ x. x) result (words_at (Place.Turn edges more) line.number (words_of line.bytes.now)) }
+fn turn(alloc: Global, edges: u32, more: u32, line: &Line) -> Result<(Item, Place), AnswerErr>
+    ensures read { Gives (λ x. x) result (words_at (Place.Turn edges more) line.now.number (words_of line.now.bytes.now)) }
     ensures small { IfOk result (λ x. IsPlace x.1) }
 {
     let values = keyed_numbers(alloc, b"turn".as_slice(), line.number, line.bytes)?;
@@ -118,8 +118,8 @@ fn turn(alloc: Global, edges: u32, more: u32, line: Line) -> Result<(Item, Place
     Ok((Item::Turn(a, b), turns_from(edges, more)))
 }
 
-fn drawn(alloc: Global, edges: u32, line: Line) -> Result<(Item, Place), AnswerErr>
-    ensures read { Gives (λ x. x) result (words_at (Place.Drawn edges) line.number (words_of line.bytes.now)) }
+fn drawn(alloc: Global, edges: u32, line: &Line) -> Result<(Item, Place), AnswerErr>
+    ensures read { Gives (λ x. x) result (words_at (Place.Drawn edges) line.now.number (words_of line.now.bytes.now)) }
     ensures small { IfOk result (λ x. IsPlace x.1) }
 {
     let values = keyed_numbers(alloc, b"drawn".as_slice(), line.number, line.bytes)?;
@@ -127,8 +127,8 @@ fn drawn(alloc: Global, edges: u32, line: Line) -> Result<(Item, Place), AnswerE
     Ok((Item::Drawn, Place::Rows { edges }))
 }
 
-fn rows(alloc: Global, edges: u32, line: Line) -> Result<(Item, Place), AnswerErr>
-    ensures read { Gives (λ x. x) result (words_at (Place.Rows edges) line.number (words_of line.bytes.now)) }
+fn rows(alloc: Global, edges: u32, line: &Line) -> Result<(Item, Place), AnswerErr>
+    ensures read { Gives (λ x. x) result (words_at (Place.Rows edges) line.now.number (words_of line.now.bytes.now)) }
     ensures small { IfOk result (λ x. IsPlace x.1) }
 {
     let values = keyed_numbers(alloc, b"rows".as_slice(), line.number, line.bytes)?;
@@ -136,8 +136,8 @@ fn rows(alloc: Global, edges: u32, line: Line) -> Result<(Item, Place), AnswerEr
     Ok((Item::Rows(count), rows_from(edges, count, count)))
 }
 
-fn row(alloc: Global, block: Block, line: Line) -> Result<(Item, Place), AnswerErr>
-    ensures read { Gives (λ x. x) result (words_at (Place.Row block) line.number (words_of line.bytes.now)) }
+fn row(alloc: Global, block: Block, line: &Line) -> Result<(Item, Place), AnswerErr>
+    ensures read { Gives (λ x. x) result (words_at (Place.Row block) line.now.number (words_of line.now.bytes.now)) }
     ensures small { IfOk result (λ x. IsPlace x.1) }
 {
     let values = keyed_numbers(alloc, b"row".as_slice(), line.number, line.bytes)?;
@@ -145,8 +145,8 @@ fn row(alloc: Global, block: Block, line: Line) -> Result<(Item, Place), AnswerE
     Ok((Item::Row(count), overs_from(block, count)))
 }
 
-fn over(alloc: Global, block: Block, more: u32, line: Line) -> Result<(Item, Place), AnswerErr>
-    ensures read { Gives (λ x. x) result (words_at (Place.Over block more) line.number (words_of line.bytes.now)) }
+fn over(alloc: Global, block: Block, more: u32, line: &Line) -> Result<(Item, Place), AnswerErr>
+    ensures read { Gives (λ x. x) result (words_at (Place.Over block more) line.now.number (words_of line.now.bytes.now)) }
     ensures small { IfOk result (λ x. IsPlace x.1) }
 {
     let values = keyed_numbers(alloc, b"over".as_slice(), line.number, line.bytes)?;
@@ -161,8 +161,8 @@ fn nodes(alloc: Global, branch: &[u32]) -> Result<Item, AllocError>
     Ok(Item::Branch(Sequence::new(Vec::from_slice(alloc, branch)?)))
 }
 
-fn evidence(alloc: Global, block: Block, line: Line) -> Result<(Item, Place), AnswerErr>
-    ensures read { Gives (λ x. x) result (words_at (Place.Evidence block) line.number (words_of line.bytes.now)) }
+fn evidence(alloc: Global, block: Block, line: &Line) -> Result<(Item, Place), AnswerErr>
+    ensures read { Gives (λ x. x) result (words_at (Place.Evidence block) line.now.number (words_of line.now.bytes.now)) }
     ensures small { IfOk result (λ x. IsPlace x.1) }
 {
     match start_line(alloc, line.number, line.bytes)? {
@@ -178,8 +178,8 @@ fn evidence(alloc: Global, block: Block, line: Line) -> Result<(Item, Place), An
     }
 }
 
-fn path(alloc: Global, block: Block, more: u32, line: Line) -> Result<(Item, Place), AnswerErr>
-    ensures read { Gives (λ x. x) result (words_at (Place.Path block more) line.number (words_of line.bytes.now)) }
+fn path(alloc: Global, block: Block, more: u32, line: &Line) -> Result<(Item, Place), AnswerErr>
+    ensures read { Gives (λ x. x) result (words_at (Place.Path block more) line.now.number (words_of line.now.bytes.now)) }
     ensures small { IfOk result (λ x. IsPlace x.1) }
 {
     let values = keyed_numbers(alloc, b"path".as_slice(), line.number, line.bytes)?;
@@ -187,8 +187,8 @@ fn path(alloc: Global, block: Block, more: u32, line: Line) -> Result<(Item, Pla
     Ok((Item::Path(Sequence::new(list)), paths_from(block, more)))
 }
 
-fn tree(alloc: Global, edges: u32, rows: u32, line: Line) -> Result<(Item, Place), AnswerErr>
-    ensures read { Gives (λ x. x) result (words_at (Place.Tree edges rows) line.number (words_of line.bytes.now)) }
+fn tree(alloc: Global, edges: u32, rows: u32, line: &Line) -> Result<(Item, Place), AnswerErr>
+    ensures read { Gives (λ x. x) result (words_at (Place.Tree edges rows) line.now.number (words_of line.now.bytes.now)) }
     ensures small { IfOk result (λ x. IsPlace x.1) }
 {
     let values = keyed_numbers(alloc, b"tree".as_slice(), line.number, line.bytes)?;
@@ -196,8 +196,8 @@ fn tree(alloc: Global, edges: u32, rows: u32, line: Line) -> Result<(Item, Place
     Ok((Item::Tree, Place::Node { edges, rows }))
 }
 
-fn step(alloc: Global, edges: u32, rows: u32, line: Line) -> Result<(Item, Place), AnswerErr>
-    ensures read { Gives (λ x. x) result (words_at (Place.Node edges rows) line.number (words_of line.bytes.now)) }
+fn step(alloc: Global, edges: u32, rows: u32, line: &Line) -> Result<(Item, Place), AnswerErr>
+    ensures read { Gives (λ x. x) result (words_at (Place.Node edges rows) line.now.number (words_of line.now.bytes.now)) }
     ensures small { IfOk result (λ x. IsPlace x.1) }
 {
     match node(alloc, edges, rows, line.number, line.bytes)? {
@@ -207,9 +207,9 @@ fn step(alloc: Global, edges: u32, rows: u32, line: Line) -> Result<(Item, Place
 }
 
 // What the words of a line at a place say, and the place after it.
-fn words(alloc: Global, place: Place, line: Line) -> Result<(Item, Place), AnswerErr>
+fn words(alloc: Global, place: Place, line: &Line) -> Result<(Item, Place), AnswerErr>
     requires { IsPlace place }
-    ensures read { Gives (λ x. x) result (words_at place line.number (words_of line.bytes.now)) }
+    ensures read { Gives (λ x. x) result (words_at place line.now.number (words_of line.now.bytes.now)) }
     ensures small { IfOk result (λ x. IsPlace x.1) }
 {
     match place {
@@ -242,9 +242,9 @@ fn words(alloc: Global, place: Place, line: Line) -> Result<(Item, Place), Answe
 }
 
 // What a line at a place says, and the place after it.
-pub fn rule_at(alloc: Global, place: Place, line: Line) -> Result<(Item, Place), AnswerErr>
+pub fn rule_at(alloc: Global, place: Place, line: &Line) -> Result<(Item, Place), AnswerErr>
     requires { IsPlace place }
-    ensures read { Gives (λ x. x) result (rule_at place line.number (line.bytes.now, line.ended)) }
+    ensures read { Gives (λ x. x) result (rule_at place line.now.number (line.now.bytes.now, line.now.ended)) }
     ensures small { IfOk result (λ x. IsPlace x.1) }
 {
     if is_end(place) {
