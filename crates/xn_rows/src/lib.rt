@@ -7,6 +7,8 @@ mod leasts;
 mod leaves;
 mod lists;
 mod states;
+#[cfg(test)]
+mod tests;
 mod turns;
 
 pub use bounds::bound;
