@@ -4,10 +4,10 @@
 mod causes;
 mod dependents;
 mod holding;
+#[cfg(test)]
+mod holding_tests;
 pub mod laws;
 mod strays;
-#[cfg(test)]
-mod tests;
 
 pub use causes::RowErr;
 pub use holding::row_holds;
