@@ -23,6 +23,21 @@ abbrev pub is_value : Option ℕ → ℕ → Bool
 is_value (Some n) m = n == m
 is_value None m = false
 
+-- the first value, and the others
+abbrev pub first_of : ℕ → List (Option ℕ) → Result (Option ℕ × List (Option ℕ)) Flaw
+first_of i (v ∷ vs) = Ok (v, vs)
+first_of i [] = Err (syntax i)
+
+-- just one value
+abbrev pub one_of : ℕ → List (Option ℕ) → Result (Option ℕ) Flaw
+one_of i (v ∷ []) = Ok v
+one_of i vs = Err (syntax i)
+
+-- just two values
+abbrev pub two_of : ℕ → List (Option ℕ) → Result (Option ℕ × Option ℕ) Flaw
+two_of i (v ∷ w ∷ []) = Ok (v, w)
+two_of i vs = Err (syntax i)
+
 -- ---- forms: what the numbers of a line say
 
 -- no number
@@ -32,42 +47,45 @@ no_form i (v ∷ vs) = Err (syntax i)
 
 -- just this number
 unfoldable pub just_form : ℕ → ℕ → List (Option ℕ) → Result (Unit {0}) Flaw
-just_form n i (v ∷ []) = if is_value v n then Ok tt else Err (syntax i)
-just_form n i vs = Err (syntax i)
+just_form n i vs = do
+  v ← one_of i vs
+  if is_value v n then Ok tt else Err (syntax i)
 
 -- one number
 unfoldable pub one_form : ℕ → ℕ → List (Option ℕ) → Result ℕ Flaw
-one_form most i (v ∷ []) = at_most i most v
-one_form most i vs = Err (syntax i)
+one_form most i vs = do
+  v ← one_of i vs
+  at_most i most v
 
 -- two numbers
 unfoldable pub two_form : ℕ → ℕ → ℕ → List (Option ℕ) → Result (ℕ × ℕ) Flaw
-two_form most_first most_second i (v ∷ w ∷ []) = do
-  m ← at_most i most_first v
-  n ← at_most i most_second w
+two_form most_first most_second i vs = do
+  v ← two_of i vs
+  m ← at_most i most_first v.0
+  n ← at_most i most_second v.1
   Ok (m, n)
-two_form most_first most_second i vs = Err (syntax i)
 
 -- the two ends of an edge, which are different nodes
 unfoldable pub edge_form : ℕ → ℕ → ℕ → List (Option ℕ) → Result (ℕ × ℕ) Flaw
-edge_form nodes e i (v ∷ w ∷ []) = do
-  first ← below i nodes v
-  second ← below i nodes w
+edge_form nodes e i vs = do
+  v ← two_of i vs
+  first ← below i nodes v.0
+  second ← below i nodes v.1
   if first == second then Err (loop_flaw i e) else Ok (first, second)
-edge_form nodes e i vs = Err (syntax i)
 
 -- how much was spent, of a budget of at most 200,000
 unfoldable pub effort_form : ℕ → List (Option ℕ) → Result (ℕ × ℕ) Flaw
-effort_form i (v ∷ w ∷ []) = do
-  budget ← at_most i 200000 w
-  spent ← at_most i budget v
+effort_form i vs = do
+  v ← two_of i vs
+  budget ← at_most i 200000 v.1
+  spent ← at_most i budget v.0
   Ok (spent, budget)
-effort_form i vs = Err (syntax i)
 
 -- the numbers after their count
 unfoldable pub counted : ℕ → ℕ → List (Option ℕ) → Result (List (Option ℕ)) Flaw
-counted most i (v ∷ vs) = if is_value v (length vs) then (if nat_lt most (length vs) then Err (out_of_range i) else Ok vs) else Err (syntax i)
-counted most i [] = Err (syntax i)
+counted most i vs = do
+  v ← first_of i vs
+  if is_value v.0 (length v.1) then (if nat_lt most (length v.1) then Err (out_of_range i) else Ok v.1) else Err (syntax i)
 
 -- a list of numbers of 32 bits, after their count
 unfoldable pub list_form : ℕ → ℕ → List (Option ℕ) → Result (List ℕ) Flaw
@@ -81,19 +99,19 @@ nodes_form count i vs = if length vs == count then each_at (at_most i (2 ^ 32 - 
 
 -- an edge and a list of numbers of 32 bits
 unfoldable pub over_form : ℕ → List (Option ℕ) → Result (ℕ × List ℕ) Flaw
-over_form i (v ∷ vs) = do
-  list ← list_form 999 i vs
-  edge ← at_most i (2 ^ 32 - 1) v
+over_form i vs = do
+  v ← first_of i vs
+  list ← list_form 999 i v.1
+  edge ← at_most i (2 ^ 32 - 1) v.0
   Ok (edge, list)
-over_form i [] = Err (syntax i)
 
 -- two edges of so many
 unfoldable pub edges_form : ℕ → ℕ → List (Option ℕ) → Result (ℕ × ℕ) Flaw
-edges_form edges i (v ∷ w ∷ []) = do
-  e ← below i edges v
-  f ← below i edges w
+edges_form edges i vs = do
+  v ← two_of i vs
+  e ← below i edges v.0
+  f ← below i edges v.1
   Ok (e, f)
-edges_form edges i vs = Err (syntax i)
 
 -- row numbers, each with its multiplier
 unfoldable pub parts_at : ℕ → ℕ → List (Option ℕ) → Result (List (ℕ × ℕ)) Flaw
@@ -112,8 +130,24 @@ is_half None m = false
 
 -- the divisor, and how many parts follow, each a row number and a multiplier
 unfoldable pub leaf_form : ℕ → ℕ → List (Option ℕ) → Result (ℕ × List (ℕ × ℕ)) Flaw
-leaf_form rows i (v ∷ w ∷ vs) =
-    if is_half w (length vs)
-    then (at_most i (2 ^ 32 - 1) w >>= λ count. factor i v >>= λ divisor. parts_at rows i vs >>= λ parts. Ok (divisor, parts))
-    else Err (syntax i)
-leaf_form rows i vs = Err (syntax i)
+leaf_form rows i vs = do
+  v ← first_of i vs
+  w ← first_of i v.1
+  if is_half w.0 (length w.1) then (at_most i (2 ^ 32 - 1) w.0 >>= λ count. factor i v.0 >>= λ divisor. parts_at rows i w.1 >>= λ parts. Ok (divisor, parts)) else Err (syntax i)
+
+-- ---- what is kept of values, where each is in its range
+
+-- a number of 32 bits, a number of 64 bits
+abbrev pub small_of : Option ℕ → ℕ
+small_of (Some n) = if nat_lt n (2 ^ 32) then n else 0
+small_of None = 0
+
+abbrev pub large_of : Option ℕ → ℕ
+large_of (Some n) = n
+large_of None = 0
+
+-- row numbers, each with its multiplier
+abbrev pub pairs_of : List (Option ℕ) → List (ℕ × ℕ)
+pairs_of [] = []
+pairs_of (v ∷ []) = []
+pairs_of (v ∷ w ∷ vs) = (small_of v, large_of w) ∷ pairs_of vs

@@ -7,7 +7,7 @@ ghost use Rattle.xn_proof.specs.WellFormed.{WellFormed};
 
 use crate::flaw::{AnswerErr, trailing};
 use crate::front::front_lines;
-use crate::ranges::{no_number, one_number};
+use crate::ranges::one_number;
 use crate::reader::Reader;
 use crate::rows::rows;
 use crate::tree::nodes;
@@ -17,20 +17,20 @@ use xn_list::Sequence;
 
 // The number of rows.
 #[tactic(auto, unfolding(crate::specs::Reading::form_at))]
-fn rows_line(alloc: Global, reader: &mut Reader) -> Result<u64, AnswerErr>
+fn rows_line(reader: &mut Reader) -> Result<u64, AnswerErr>
     ensures read { Reads (λ x. x) result reader.new (form_at (codes "rows") (one_form 1048576) reader.old) }
     ensures small { IfOk result (λ n. n ≤ 1048576) }
 {
-    let (number, values) = reader.numbers(alloc, b"rows".as_slice())?;
+    let (number, values) = reader.numbers(b"rows".as_slice())?;
     one_number(1_048_576, number, &values)
 }
 
 #[tactic(auto, unfolding(crate::specs::Reading::form_at))]
-fn tree_line(alloc: Global, reader: &mut Reader) -> Result<(), AnswerErr>
+fn tree_line(reader: &mut Reader) -> Result<(), AnswerErr>
     ensures { Reads (λ x. x) result reader.new (form_at (codes "tree") no_form reader.old) }
 {
-    let (number, values) = reader.numbers(alloc, b"tree".as_slice())?;
-    no_number(number, &values)
+    let (number, values) = reader.numbers(b"tree".as_slice())?;
+    values.none(number)
 }
 
 fn nothing(reader: &Reader) -> Result<(), AnswerErr>
@@ -53,9 +53,9 @@ pub fn read_proof(
 ) -> Result<(Sequence<Row>, Tree), AnswerErr>
     ensures { Gives (λ x. x) result (proof_at edges reader.old) }
 {
-    let count = rows_line(alloc, reader)? as u32;
+    let count = rows_line(reader)? as u32;
     let rows = rows(alloc, edges, count, reader)?;
-    tree_line(alloc, reader)?;
+    tree_line(reader)?;
     let nodes = nodes(alloc, edges, count, reader)?;
     nothing(reader)?;
     Ok((Sequence::new(rows), Tree::new(nodes)))

@@ -7,8 +7,9 @@ ghost use Rattle.xn_proof.specs.Ranges.{nodes_form};
 ghost use Rattle.xn_proof.specs.Reading.{Gives, Reads, many_at};
 
 use crate::flaw::{AnswerErr, syntax};
+use crate::numbers::{Numbers, has_key, keyed_numbers};
 use crate::ranges::{number_list, small_numbers};
-use crate::reader::{Reader, has_key, keyed_numbers};
+use crate::reader::Reader;
 use std::alloc::Global;
 use xn_kinds::{Evidence, Paths};
 use xn_list::Sequence;
@@ -30,7 +31,7 @@ fn branch_nodes(
     alloc: Global,
     count: usize,
     number: u64,
-    values: &[Option<u64>],
+    values: &Numbers,
 ) -> Result<Vec<u32>, AnswerErr>
     ensures read { Gives (λ x. x.items) result (nodes_form count number values.now) }
     ensures count { IfOk result (λ x. length x.items ≡ count) }
@@ -61,16 +62,16 @@ pub fn start_line(alloc: Global, number: u64, line: &[u8]) -> Result<Start, Answ
     ensures { Gives (λ x. x) result (start_of number (words_of line.now)) }
 {
     if has_key(b"five".as_slice(), line) {
-        let values = keyed_numbers(alloc, b"five".as_slice(), number, line)?;
+        let values = keyed_numbers(b"five".as_slice(), number, line)?;
         let nodes = branch_nodes(alloc, 5, number, &values)?;
         return Ok(Start::Five(five(&nodes)));
     }
     if has_key(b"three".as_slice(), line) {
-        let values = keyed_numbers(alloc, b"three".as_slice(), number, line)?;
+        let values = keyed_numbers(b"three".as_slice(), number, line)?;
         let nodes = branch_nodes(alloc, 6, number, &values)?;
         return Ok(Start::ThreeThree(six(&nodes)));
     }
-    let values = keyed_numbers(alloc, b"extension".as_slice(), number, line)?;
+    let values = keyed_numbers(b"extension".as_slice(), number, line)?;
     let list = number_list(alloc, 1_000_000, number, &values)?;
     Ok(Start::Extension(Sequence::new(list)))
 }
@@ -80,7 +81,7 @@ pub fn start_line(alloc: Global, number: u64, line: &[u8]) -> Result<Start, Answ
 fn path_line(alloc: Global, path: u32, reader: &mut Reader) -> Result<Vec<u32>, AnswerErr>
     ensures { Reads (λ x. x.items) result reader.new (path_at path reader.old) }
 {
-    let (number, values) = reader.numbers(alloc, b"path".as_slice())?;
+    let (number, values) = reader.numbers(b"path".as_slice())?;
     number_list(alloc, 1_000_000, number, &values)
 }
 

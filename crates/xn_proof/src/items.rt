@@ -13,16 +13,11 @@ use std::alloc::{AllocError, Global};
 
 // The ends of an edge.
 #[tactic(auto, unfolding(crate::specs::Reading::form_at))]
-fn edge_line(
-    alloc: Global,
-    nodes: u32,
-    edge: u32,
-    reader: &mut Reader,
-) -> Result<(u32, u32), AnswerErr>
+fn edge_line(nodes: u32, edge: u32, reader: &mut Reader) -> Result<(u32, u32), AnswerErr>
     ensures read { Reads (λ x. x) result reader.new (edge_at nodes edge reader.old) }
     ensures inside { IfOk result (IsEdge nodes) }
 {
-    let (number, values) = reader.numbers(alloc, b"edge".as_slice())?;
+    let (number, values) = reader.numbers(b"edge".as_slice())?;
     edge_ends(nodes, edge, number, &values)
 }
 
@@ -39,7 +34,7 @@ pub fn edge_lines(
 {
     let mut ends = Vec::new(alloc);
     for edge in 0..count {
-        ends.push(edge_line(alloc, nodes, edge, reader)?)?;
+        ends.push(edge_line(nodes, edge, reader)?)?;
     }
     Ok(ends)
 }
@@ -50,7 +45,7 @@ fn along_line(alloc: Global, edge: u32, reader: &mut Reader) -> Result<Vec<u32>,
     ensures read { Reads (λ x. x.items) result reader.new (along_at edge reader.old) }
     ensures small { IfOk result (λ x. length x.items ≤ 999) }
 {
-    let (number, values) = reader.numbers(alloc, b"along".as_slice())?;
+    let (number, values) = reader.numbers(b"along".as_slice())?;
     number_list(alloc, 999, number, &values)
 }
 
@@ -86,10 +81,10 @@ pub fn segments(edges: u32, lists: &[Vec<u32>]) -> u32
 
 // What follows the two darts of a segment.
 #[tactic(auto, unfolding(crate::specs::Reading::form_at))]
-fn turn_line(alloc: Global, segment: u32, reader: &mut Reader) -> Result<(u32, u32), AnswerErr>
+fn turn_line(segment: u32, reader: &mut Reader) -> Result<(u32, u32), AnswerErr>
     ensures { Reads (λ x. x) result reader.new (turn_at segment reader.old) }
 {
-    let (number, values) = reader.numbers(alloc, b"turn".as_slice())?;
+    let (number, values) = reader.numbers(b"turn".as_slice())?;
     two_numbers((u32::MAX, u32::MAX), number, &values)
 }
 
@@ -103,7 +98,7 @@ pub fn turn_lines(
 {
     let mut turns = Vec::new(alloc);
     for segment in 0..count {
-        turns.push(turn_line(alloc, segment, reader)?)?;
+        turns.push(turn_line(segment, reader)?)?;
     }
     Ok(turns)
 }

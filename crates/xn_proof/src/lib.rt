@@ -9,6 +9,7 @@ mod front;
 mod item;
 mod items;
 pub mod laws;
+mod numbers;
 mod places;
 mod ranges;
 mod reader;

@@ -7,10 +7,8 @@ ghost use Rattle.xn_proof.specs.Reading.{Gives};
 use crate::evidence::{Start, start_line};
 use crate::flaw::{AnswerErr, syntax, trailing};
 use crate::item::Item;
-use crate::ranges::{
-    edge_ends, effort, just_number, no_number, number_list, one_number, two_numbers,
-};
-use crate::reader::keyed_numbers;
+use crate::numbers::keyed_numbers;
+use crate::ranges::{edge_ends, effort, just_number, number_list, one_number, two_numbers};
 use crate::rows::edge_and_list;
 use crate::tree::node;
 use std::alloc::{AllocError, Global};
@@ -181,42 +179,35 @@ fn paths_from(block: Block, count: u32) -> Place
     }
 }
 
-fn header(alloc: Global, number: u64, line: &[u8]) -> Result<(Item, Place), AnswerErr>
+fn header(number: u64, line: &[u8]) -> Result<(Item, Place), AnswerErr>
     ensures read { Gives (λ x. x) result (words_at Place.Header number (words_of line.now)) }
     ensures small { IfOk result (λ x. IsPlace x.1) }
 {
-    let values = keyed_numbers(alloc, b"crossing-answer".as_slice(), number, line)?;
+    let values = keyed_numbers(b"crossing-answer".as_slice(), number, line)?;
     just_number(1, number, &values)?;
     Ok((Item::Header(1), Place::Graph))
 }
 
-fn size(alloc: Global, number: u64, line: &[u8]) -> Result<(Item, Place), AnswerErr>
+fn size(number: u64, line: &[u8]) -> Result<(Item, Place), AnswerErr>
     ensures read { Gives (λ x. x) result (words_at Place.Graph number (words_of line.now)) }
     ensures small { IfOk result (λ x. IsPlace x.1) }
 {
-    let values = keyed_numbers(alloc, b"graph".as_slice(), number, line)?;
+    let values = keyed_numbers(b"graph".as_slice(), number, line)?;
     let (nodes, edges) = two_numbers((1000, 1000), number, &values)?;
     Ok((Item::Graph { nodes, edges }, Place::Loops { nodes, edges }))
 }
 
-fn loops(
-    alloc: Global,
-    nodes: u32,
-    edges: u32,
-    number: u64,
-    line: &[u8],
-) -> Result<(Item, Place), AnswerErr>
+fn loops(nodes: u32, edges: u32, number: u64, line: &[u8]) -> Result<(Item, Place), AnswerErr>
     requires { edges ≤ 1000 }
     ensures read { Gives (λ x. x) result (words_at (Place.Loops nodes edges) number (words_of line.now)) }
     ensures small { IfOk result (λ x. IsPlace x.1) }
 {
-    let values = keyed_numbers(alloc, b"loops".as_slice(), number, line)?;
+    let values = keyed_numbers(b"loops".as_slice(), number, line)?;
     let loops = one_number(u64::MAX, number, &values)?;
     Ok((Item::Loops(loops), edges_from(nodes, 0, edges)))
 }
 
 fn edge(
-    alloc: Global,
     nodes: u32,
     edge: u32,
     more: u32,
@@ -227,32 +218,27 @@ fn edge(
     ensures read { Gives (λ x. x) result (words_at (Place.Edge nodes edge more) number (words_of line.now)) }
     ensures small { IfOk result (λ x. IsPlace x.1) }
 {
-    let values = keyed_numbers(alloc, b"edge".as_slice(), number, line)?;
+    let values = keyed_numbers(b"edge".as_slice(), number, line)?;
     let (u, v) = edge_ends(nodes, edge, number, &values)?;
     Ok((Item::Edge(u, v), edges_from(nodes, edge + 1, more)))
 }
 
-fn bounds(alloc: Global, edges: u32, number: u64, line: &[u8]) -> Result<(Item, Place), AnswerErr>
+fn bounds(edges: u32, number: u64, line: &[u8]) -> Result<(Item, Place), AnswerErr>
     requires { edges ≤ 1000 }
     ensures read { Gives (λ x. x) result (words_at (Place.Bounds edges) number (words_of line.now)) }
     ensures small { IfOk result (λ x. IsPlace x.1) }
 {
-    let values = keyed_numbers(alloc, b"bounds".as_slice(), number, line)?;
+    let values = keyed_numbers(b"bounds".as_slice(), number, line)?;
     let (lower, upper) = two_numbers((499_500, 499_500), number, &values)?;
     Ok((Item::Bounds { lower, upper }, Place::Effort { edges }))
 }
 
-fn effort_at(
-    alloc: Global,
-    edges: u32,
-    number: u64,
-    line: &[u8],
-) -> Result<(Item, Place), AnswerErr>
+fn effort_at(edges: u32, number: u64, line: &[u8]) -> Result<(Item, Place), AnswerErr>
     requires { edges ≤ 1000 }
     ensures read { Gives (λ x. x) result (words_at (Place.Effort edges) number (words_of line.now)) }
     ensures small { IfOk result (λ x. IsPlace x.1) }
 {
-    let values = keyed_numbers(alloc, b"effort".as_slice(), number, line)?;
+    let values = keyed_numbers(b"effort".as_slice(), number, line)?;
     let (spent, budget) = effort(number, &values)?;
     Ok((
         Item::Effort { spent, budget },
@@ -272,50 +258,44 @@ fn along(
     ensures read { Gives (λ x. x) result (words_at (Place.Along edges segments more) number (words_of line.now)) }
     ensures small { IfOk result (λ x. IsPlace x.1) }
 {
-    let values = keyed_numbers(alloc, b"along".as_slice(), number, line)?;
+    let values = keyed_numbers(b"along".as_slice(), number, line)?;
     let list = number_list(alloc, 999, number, &values)?;
     let place = alongs_from(edges, segments + list.len() as u32, more);
     Ok((Item::Along(Sequence::new(list)), place))
 }
 
-fn turn(
-    alloc: Global,
-    edges: u32,
-    more: u32,
-    number: u64,
-    line: &[u8],
-) -> Result<(Item, Place), AnswerErr>
+fn turn(edges: u32, more: u32, number: u64, line: &[u8]) -> Result<(Item, Place), AnswerErr>
     ensures read { Gives (λ x. x) result (words_at (Place.Turn edges more) number (words_of line.now)) }
     ensures small { IfOk result (λ x. IsPlace x.1) }
 {
-    let values = keyed_numbers(alloc, b"turn".as_slice(), number, line)?;
+    let values = keyed_numbers(b"turn".as_slice(), number, line)?;
     let (a, b) = two_numbers((u32::MAX, u32::MAX), number, &values)?;
     Ok((Item::Turn(a, b), turns_from(edges, more)))
 }
 
-fn drawn(alloc: Global, edges: u32, number: u64, line: &[u8]) -> Result<(Item, Place), AnswerErr>
+fn drawn(edges: u32, number: u64, line: &[u8]) -> Result<(Item, Place), AnswerErr>
     ensures read { Gives (λ x. x) result (words_at (Place.Drawn edges) number (words_of line.now)) }
     ensures small { IfOk result (λ x. IsPlace x.1) }
 {
-    let values = keyed_numbers(alloc, b"drawn".as_slice(), number, line)?;
-    no_number(number, &values)?;
+    let values = keyed_numbers(b"drawn".as_slice(), number, line)?;
+    values.none(number)?;
     Ok((Item::Drawn, Place::Rows { edges }))
 }
 
-fn rows(alloc: Global, edges: u32, number: u64, line: &[u8]) -> Result<(Item, Place), AnswerErr>
+fn rows(edges: u32, number: u64, line: &[u8]) -> Result<(Item, Place), AnswerErr>
     ensures read { Gives (λ x. x) result (words_at (Place.Rows edges) number (words_of line.now)) }
     ensures small { IfOk result (λ x. IsPlace x.1) }
 {
-    let values = keyed_numbers(alloc, b"rows".as_slice(), number, line)?;
+    let values = keyed_numbers(b"rows".as_slice(), number, line)?;
     let count = one_number(1_048_576, number, &values)? as u32;
     Ok((Item::Rows(count), rows_from(edges, count, count)))
 }
 
-fn row(alloc: Global, block: Block, number: u64, line: &[u8]) -> Result<(Item, Place), AnswerErr>
+fn row(block: Block, number: u64, line: &[u8]) -> Result<(Item, Place), AnswerErr>
     ensures read { Gives (λ x. x) result (words_at (Place.Row block) number (words_of line.now)) }
     ensures small { IfOk result (λ x. IsPlace x.1) }
 {
-    let values = keyed_numbers(alloc, b"row".as_slice(), number, line)?;
+    let values = keyed_numbers(b"row".as_slice(), number, line)?;
     let count = one_number(u64::from(block.edges), number, &values)? as u32;
     Ok((Item::Row(count), overs_from(block, count)))
 }
@@ -330,7 +310,7 @@ fn over(
     ensures read { Gives (λ x. x) result (words_at (Place.Over block more) number (words_of line.now)) }
     ensures small { IfOk result (λ x. IsPlace x.1) }
 {
-    let values = keyed_numbers(alloc, b"over".as_slice(), number, line)?;
+    let values = keyed_numbers(b"over".as_slice(), number, line)?;
     let (edge, list) = edge_and_list(alloc, number, &values)?;
     let list = Sequence::new(list);
     Ok((Item::Over { edge, list }, overs_from(block, more)))
@@ -374,23 +354,17 @@ fn path(
     ensures read { Gives (λ x. x) result (words_at (Place.Path block more) number (words_of line.now)) }
     ensures small { IfOk result (λ x. IsPlace x.1) }
 {
-    let values = keyed_numbers(alloc, b"path".as_slice(), number, line)?;
+    let values = keyed_numbers(b"path".as_slice(), number, line)?;
     let list = number_list(alloc, 1_000_000, number, &values)?;
     Ok((Item::Path(Sequence::new(list)), paths_from(block, more)))
 }
 
-fn tree(
-    alloc: Global,
-    edges: u32,
-    rows: u32,
-    number: u64,
-    line: &[u8],
-) -> Result<(Item, Place), AnswerErr>
+fn tree(edges: u32, rows: u32, number: u64, line: &[u8]) -> Result<(Item, Place), AnswerErr>
     ensures read { Gives (λ x. x) result (words_at (Place.Tree edges rows) number (words_of line.now)) }
     ensures small { IfOk result (λ x. IsPlace x.1) }
 {
-    let values = keyed_numbers(alloc, b"tree".as_slice(), number, line)?;
-    no_number(number, &values)?;
+    let values = keyed_numbers(b"tree".as_slice(), number, line)?;
+    values.none(number)?;
     Ok((Item::Tree, Place::Node { edges, rows }))
 }
 
@@ -417,35 +391,35 @@ fn words(alloc: Global, place: Place, number: u64, line: &[u8]) -> Result<(Item,
     ensures small { IfOk result (λ x. IsPlace x.1) }
 {
     match place {
-        Place::Header => header(alloc, number, line),
-        Place::Graph => size(alloc, number, line),
-        Place::Loops { nodes, edges } => loops(alloc, nodes, edges, number, line),
+        Place::Header => header(number, line),
+        Place::Graph => size(number, line),
+        Place::Loops { nodes, edges } => loops(nodes, edges, number, line),
         Place::Edge {
             nodes,
             edge: e,
             more,
-        } => edge(alloc, nodes, e, more, number, line),
-        Place::Bounds { edges } => bounds(alloc, edges, number, line),
-        Place::Effort { edges } => effort_at(alloc, edges, number, line),
+        } => edge(nodes, e, more, number, line),
+        Place::Bounds { edges } => bounds(edges, number, line),
+        Place::Effort { edges } => effort_at(edges, number, line),
         Place::Along {
             edges,
             segments,
             more,
         } => { along(alloc, edges, segments, more, number, line) }
-        Place::Turn { edges, more } => turn(alloc, edges, more, number, line),
-        Place::Drawn { edges } => drawn(alloc, edges, number, line),
-        Place::Rows { edges } => rows(alloc, edges, number, line),
-        Place::Row { block } => row(alloc, block, number, line),
+        Place::Turn { edges, more } => turn(edges, more, number, line),
+        Place::Drawn { edges } => drawn(edges, number, line),
+        Place::Rows { edges } => rows(edges, number, line),
+        Place::Row { block } => row(block, number, line),
         Place::Over { block, more } => over(alloc, block, more, number, line),
         Place::Evidence { block } => evidence(alloc, block, number, line),
         Place::Path { block, more } => path(alloc, block, more, number, line),
-        Place::Tree { edges, rows } => tree(alloc, edges, rows, number, line),
+        Place::Tree { edges, rows } => tree(edges, rows, number, line),
         Place::Node { edges, rows } => step(alloc, edges, rows, number, line),
         Place::Nothing => Err(trailing(number)),
     }
 }
 
-// Whether the answer has come to its end.
+/// Whether the answer has come to its end.
 pub fn is_end(place: Place) -> bool
     ensures { result ≡ is_end place }
 {
@@ -455,7 +429,7 @@ pub fn is_end(place: Place) -> bool
     }
 }
 
-// What a line at a place says, and the place after it.
+/// What a line at a place says, and the place after it.
 pub fn rule_at(
     alloc: Global,
     place: Place,

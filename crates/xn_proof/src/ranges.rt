@@ -1,11 +1,12 @@
 // The numbers of a line, each in its range.
-ghost use Rattle.std.specs.Prelude.{◌≡◌, ◌<◌, ◌≤◌, ◌-◌, ◌^◌, IfOk, length};
+ghost use Rattle.std.specs.Prelude.{◌≡◌, ◌<◌, ◌≤◌, ◌-◌, ◌^◌, IfOk, length, map};
 ghost use Rattle.xn_graph.specs.Limits.{IsEdge};
-ghost use Rattle.xn_proof.specs.Ranges.{at_most, below, counted, edge_form, effort_form, factor, is_value, just_form, list_form, no_form, one_form, two_form};
+ghost use Rattle.xn_proof.specs.Ranges.{at_most, below, counted, edge_form, effort_form, factor, just_form, list_form, one_form, small_of, two_form};
 ghost use Rattle.xn_proof.specs.Reading.{Gives, each_at};
 
 use crate::flaw::{AnswerErr, loop_flaw, out_of_range, syntax};
-use std::alloc::Global;
+use crate::numbers::Numbers;
+use std::alloc::{AllocError, Global};
 
 /// A number from 0 to `most`.
 pub fn at_most(number: u64, most: u64, value: Option<u64>) -> Result<u64, AnswerErr>
@@ -48,54 +49,37 @@ pub fn factor(number: u64, value: Option<u64>) -> Result<u64, AnswerErr>
     }
 }
 
-#[tactic(auto, unfolding(crate::specs::Ranges::no_form))]
-pub fn no_number(number: u64, values: &[Option<u64>]) -> Result<(), AnswerErr>
-    ensures { Gives (λ x. x) result (no_form number values.now) }
-{
-    match values {
-        [] => Ok(()),
-        _ => Err(syntax(number)),
-    }
-}
-
+/// Just this number.
 #[tactic(auto, unfolding(crate::specs::Ranges::just_form))]
-pub fn just_number(n: u64, number: u64, values: &[Option<u64>]) -> Result<(), AnswerErr>
+pub fn just_number(n: u64, number: u64, values: &Numbers) -> Result<(), AnswerErr>
     ensures { Gives (λ x. x) result (just_form n number values.now) }
 {
-    match values {
-        [Some(m)] if *m == n => Ok(()),
+    match values.one(number)? {
+        Some(m) if m == n => Ok(()),
         _ => Err(syntax(number)),
     }
 }
 
+/// One number from 0 to `most`.
 #[tactic(auto, unfolding(crate::specs::Ranges::one_form))]
-pub fn one_number(most: u64, number: u64, values: &[Option<u64>]) -> Result<u64, AnswerErr>
+pub fn one_number(most: u64, number: u64, values: &Numbers) -> Result<u64, AnswerErr>
     ensures read { Gives (λ x. x) result (one_form most number values.now) }
     ensures small { IfOk result (λ n. n ≤ most) }
 {
-    match values {
-        [value] => at_most(number, most, *value),
-        _ => Err(syntax(number)),
-    }
+    let value = values.one(number)?;
+    at_most(number, most, value)
 }
 
+/// Two numbers from 0 to `most`, each to its own.
 #[tactic(auto, unfolding(crate::specs::Ranges::two_form))]
-pub fn two_numbers(
-    most: (u32, u32),
-    number: u64,
-    values: &[Option<u64>],
-) -> Result<(u32, u32), AnswerErr>
+pub fn two_numbers(most: (u32, u32), number: u64, values: &Numbers) -> Result<(u32, u32), AnswerErr>
     ensures read { Gives (λ x. x) result (two_form most.0 most.1 number values.now) }
     ensures small { IfOk result (λ x. (x.0 ≤ most.0) × (x.1 ≤ most.1)) }
 {
-    match values {
-        [first, second] => {
-            let m = small(number, most.0, *first)?;
-            let n = small(number, most.1, *second)?;
-            Ok((m, n))
-        }
-        _ => Err(syntax(number)),
-    }
+    let (first, second) = values.two(number)?;
+    let m = small(number, most.0, first)?;
+    let n = small(number, most.1, second)?;
+    Ok((m, n))
 }
 
 /// The ends of an edge.
@@ -104,54 +88,40 @@ pub fn edge_ends(
     nodes: u32,
     edge: u32,
     number: u64,
-    values: &[Option<u64>],
+    values: &Numbers,
 ) -> Result<(u32, u32), AnswerErr>
     ensures read { Gives (λ x. x) result (edge_form nodes edge number values.now) }
     ensures inside { IfOk result (IsEdge nodes) }
 {
-    match values {
-        [first, second] => {
-            let u = below(number, nodes, *first)?;
-            let v = below(number, nodes, *second)?;
-            if u == v {
-                return Err(loop_flaw(number, edge));
-            }
-            Ok((u, v))
-        }
-        _ => Err(syntax(number)),
+    let (first, second) = values.two(number)?;
+    let u = below(number, nodes, first)?;
+    let v = below(number, nodes, second)?;
+    if u == v {
+        return Err(loop_flaw(number, edge));
     }
+    Ok((u, v))
 }
 
 /// How much was spent of a budget.
 #[tactic(auto, unfolding(crate::specs::Ranges::effort_form))]
-pub fn effort(number: u64, values: &[Option<u64>]) -> Result<(u64, u64), AnswerErr>
+pub fn effort(number: u64, values: &Numbers) -> Result<(u64, u64), AnswerErr>
     ensures read { Gives (λ x. x) result (effort_form number values.now) }
     ensures small { IfOk result (λ x. (x.0 ≤ x.1) × (x.1 ≤ 200000)) }
 {
-    match values {
-        [spent, budget] => {
-            let budget = at_most(number, 200_000, *budget)?;
-            let spent = at_most(number, budget, *spent)?;
-            Ok((spent, budget))
-        }
-        _ => Err(syntax(number)),
-    }
+    let (spent, budget) = values.two(number)?;
+    let budget = at_most(number, 200_000, budget)?;
+    let spent = at_most(number, budget, spent)?;
+    Ok((spent, budget))
 }
 
 /// The numbers after their count.
 #[tactic(auto, unfolding(crate::specs::Ranges::counted))]
-pub fn counted<'a>(
-    most: usize,
-    number: u64,
-    values: &'a [Option<u64>],
-) -> Result<&'a [Option<u64>], AnswerErr>
-    ensures read { Gives (λ x. x.now) result (counted most number values.now) }
-    ensures small { IfOk result (λ x. length x.now ≤ most) }
+pub fn counted<'a>(most: usize, number: u64, values: &Numbers<'a>) -> Result<Numbers<'a>, AnswerErr>
+    ensures read { Gives (λ x. x) result (counted most number values.now) }
+    ensures small { IfOk result (λ x. length x ≤ most) }
 {
-    let Some((count, rest)) = values.split_first() else {
-        return Err(syntax(number));
-    };
-    if *count != Some(rest.len() as u64) {
+    let (count, rest) = values.first(number)?;
+    if count != Some(rest.len() as u64) {
         return Err(syntax(number));
     }
     if rest.len() > most {
@@ -166,27 +136,54 @@ pub fn number_list(
     alloc: Global,
     most: usize,
     number: u64,
-    values: &[Option<u64>],
+    values: &Numbers,
 ) -> Result<Vec<u32>, AnswerErr>
     ensures read { Gives (λ x. x.items) result (list_form most number values.now) }
     ensures small { IfOk result (λ x. length x.items ≤ most) }
 {
     let rest = counted(most, number, values)?;
-    small_numbers(alloc, number, rest)
+    small_numbers(alloc, number, &rest)
 }
 
-/// Numbers of 32 bits.
-pub fn small_numbers(
-    alloc: Global,
-    number: u64,
-    values: &[Option<u64>],
-) -> Result<Vec<u32>, AnswerErr>
+/// Numbers of 32 bits. All are tested before memory is taken for them.
+pub fn small_numbers(alloc: Global, number: u64, values: &Numbers) -> Result<Vec<u32>, AnswerErr>
     ensures read { Gives (λ x. x.items) result (each_at (at_most number (2 ^ 32 - 1)) values.now) }
     ensures count { IfOk result (λ x. length x.items ≡ length values.now) }
 {
-    let mut list = Vec::new(alloc);
-    for value in values {
-        list.push(small(number, u32::MAX, *value)?)?;
+    all_small(number, values)?;
+    let list = keep_small(alloc, values)?;
+    Ok(list)
+}
+
+// Tests that all are numbers of 32 bits.
+fn all_small(number: u64, values: &Numbers) -> Result<(), AnswerErr>
+    ensures { Gives (λ u. map small_of values.now) result (each_at (at_most number (2 ^ 32 - 1)) values.now) }
+{
+    let mut rest = values.again();
+    while let Some(value) = rest.next() {
+        small(number, u32::MAX, value)?;
+    }
+    Ok(())
+}
+
+// Those of 32 bits, with 0 for each other.
+fn keep_small(alloc: Global, values: &Numbers) -> Result<Vec<u32>, AllocError>
+    ensures { IfOk result (λ list. list.items ≡ map small_of values.now) }
+{
+    let mut list = Vec::with_capacity(alloc, values.len())?;
+    let mut rest = values.again();
+    while let Some(value) = rest.next() {
+        list.push(small_of(value))?;
     }
     Ok(list)
+}
+
+/// The number itself where it has 32 bits, and 0 else.
+pub fn small_of(value: Option<u64>) -> u32
+    ensures { result ≡ small_of value }
+{
+    match value {
+        Some(n) if n < 1 << 32 => n as u32,
+        _ => 0,
+    }
 }

@@ -6,7 +6,8 @@ ghost use Rattle.xn_proof.specs.Ranges.{one_form, over_form};
 ghost use Rattle.xn_proof.specs.Reading.{Gives, Reads, form_at, many_at};
 
 use crate::evidence::evidence;
-use crate::flaw::{AnswerErr, syntax};
+use crate::flaw::AnswerErr;
+use crate::numbers::Numbers;
 use crate::ranges::{number_list, one_number, small};
 use crate::reader::Reader;
 use std::alloc::Global;
@@ -18,15 +19,13 @@ use xn_list::Sequence;
 pub fn edge_and_list(
     alloc: Global,
     number: u64,
-    values: &[Option<u64>],
+    values: &Numbers,
 ) -> Result<(u32, Vec<u32>), AnswerErr>
     ensures { Gives (λ x. (x.0, x.1.items)) result (over_form number values.now) }
 {
-    let Some((edge, rest)) = values.split_first() else {
-        return Err(syntax(number));
-    };
-    let list = number_list(alloc, 999, number, rest)?;
-    let edge = small(number, u32::MAX, *edge)?;
+    let (edge, rest) = values.first(number)?;
+    let list = number_list(alloc, 999, number, &rest)?;
+    let edge = small(number, u32::MAX, edge)?;
     Ok((edge, list))
 }
 
@@ -35,7 +34,7 @@ pub fn edge_and_list(
 fn over_line(alloc: Global, place: u32, reader: &mut Reader) -> Result<(u32, Vec<u32>), AnswerErr>
     ensures { Reads (λ x. (x.0, x.1.items)) result reader.new (over_at place reader.old) }
 {
-    let (number, values) = reader.numbers(alloc, b"over".as_slice())?;
+    let (number, values) = reader.numbers(b"over".as_slice())?;
     edge_and_list(alloc, number, &values)
 }
 
@@ -60,11 +59,11 @@ fn over_lines(
 
 // The number of edges of a row, of a graph with so many.
 #[tactic(auto, unfolding(crate::specs::Reading::form_at))]
-fn row_line(alloc: Global, edges: u32, reader: &mut Reader) -> Result<u64, AnswerErr>
+fn row_line(edges: u32, reader: &mut Reader) -> Result<u64, AnswerErr>
     ensures read { Reads (λ x. x) result reader.new (form_at (codes "row") (one_form edges) reader.old) }
     ensures small { IfOk result (λ n. n ≤ edges) }
 {
-    let (number, values) = reader.numbers(alloc, b"row".as_slice())?;
+    let (number, values) = reader.numbers(b"row".as_slice())?;
     one_number(u64::from(edges), number, &values)
 }
 
@@ -73,7 +72,7 @@ fn row_line(alloc: Global, edges: u32, reader: &mut Reader) -> Result<u64, Answe
 fn row(alloc: Global, edges: u32, place: u32, reader: &mut Reader) -> Result<Row, AnswerErr>
     ensures { Reads (λ x. x) result reader.new (row_at edges place reader.old) }
 {
-    let count = row_line(alloc, edges, reader)?;
+    let count = row_line(edges, reader)?;
     let (listed, lists) = over_lines(alloc, count as u32, reader)?;
     let evidence = evidence(alloc, reader)?;
     Ok(Row {

@@ -1,78 +1,78 @@
 // The nodes of the proof tree.
-ghost use Rattle.std.specs.Prelude.{◌≡◌, length};
+ghost use Rattle.std.specs.Prelude.{◌≡◌, IfOk, length};
 ghost use Rattle.xn_text.specs.Pieces.{words_of};
 ghost use Rattle.xn_proof.specs.Proofs.{node_of, nodes_at};
-ghost use Rattle.xn_proof.specs.Ranges.{edges_form, is_half, leaf_form, parts_at};
+ghost use Rattle.xn_proof.specs.Ranges.{edges_form, is_half, leaf_form, pairs_of, parts_at};
 ghost use Rattle.xn_proof.specs.Reading.{Gives, Reads};
 
 use crate::flaw::{AnswerErr, syntax};
-use crate::ranges::{below, factor, no_number, small};
-use crate::reader::{Reader, has_key, keyed_numbers};
-use std::alloc::Global;
+use crate::numbers::{Numbers, has_key, keyed_numbers};
+use crate::ranges::{below, factor, small, small_of};
+use crate::reader::Reader;
+use std::alloc::{AllocError, Global};
 use xn_kinds::Node;
 use xn_list::Sequence;
 
 // Two edges of so many.
 #[tactic(auto, unfolding(crate::specs::Ranges::edges_form))]
-fn two_edges(edges: u32, number: u64, values: &[Option<u64>]) -> Result<(u32, u32), AnswerErr>
+fn two_edges(edges: u32, number: u64, values: &Numbers) -> Result<(u32, u32), AnswerErr>
     ensures { Gives (λ x. x) result (edges_form edges number values.now) }
 {
-    match values {
-        [first, second] => {
-            let e = below(number, edges, *first)?;
-            let f = below(number, edges, *second)?;
-            Ok((e, f))
-        }
-        _ => Err(syntax(number)),
-    }
+    let (first, second) = values.two(number)?;
+    let e = below(number, edges, first)?;
+    let f = below(number, edges, second)?;
+    Ok((e, f))
 }
 
-// Row numbers, each with its multiplier.
-fn parts(
-    alloc: Global,
-    rows: u32,
-    number: u64,
-    values: &[Option<u64>],
-) -> Result<Vec<(u32, u64)>, AnswerErr>
-    ensures { Gives (λ x. x.items) result (parts_at rows number values.now) }
+// Tests that they are row numbers, each with its multiplier.
+fn all_parts(rows: u32, number: u64, values: &Numbers) -> Result<(), AnswerErr>
+    ensures { Gives (λ u. pairs_of values.now) result (parts_at rows number values.now) }
 {
-    let mut parts = Vec::new(alloc);
-    let mut rest = values;
-    while let [row, multiplier, ..] = rest {
-        let row = below(number, rows, *row)?;
-        let multiplier = factor(number, *multiplier)?;
-        parts.push((row, multiplier))?;
-        rest = &rest[2..];
+    let mut rest = values.again();
+    while let Some(row) = rest.next() {
+        let Some(multiplier) = rest.next() else {
+            return Err(syntax(number));
+        };
+        below(number, rows, row)?;
+        factor(number, multiplier)?;
     }
-    if rest.is_empty() {
-        Ok(parts)
-    } else {
-        Err(syntax(number))
-    }
+    Ok(())
 }
 
-// The divisor of a leaf, and its parts.
+// Those of 32 and 64 bits in turn, with 0 for each other.
+fn keep_parts(alloc: Global, values: &Numbers) -> Result<Vec<(u32, u64)>, AllocError>
+    ensures { IfOk result (λ parts. parts.items ≡ pairs_of values.now) }
+{
+    let mut parts = Vec::with_capacity(alloc, values.len() / 2)?;
+    let mut rest = values.again();
+    while let Some(row) = rest.next() {
+        let Some(multiplier) = rest.next() else {
+            return Ok(parts);
+        };
+        parts.push((small_of(row), multiplier.unwrap_or(0)))?;
+    }
+    Ok(parts)
+}
+
+// The divisor of a leaf, and its parts. All are tested before memory is taken for them.
 #[tactic(auto, unfolding(crate::specs::Ranges::leaf_form))]
 fn leaf(
     alloc: Global,
     rows: u32,
     number: u64,
-    values: &[Option<u64>],
+    values: &Numbers,
 ) -> Result<(u64, Vec<(u32, u64)>), AnswerErr>
     ensures { Gives (λ x. (x.0, x.1.items)) result (leaf_form rows number values.now) }
 {
-    let Some((divisor, rest)) = values.split_first() else {
-        return Err(syntax(number));
-    };
-    let Some((count, rest)) = rest.split_first() else {
-        return Err(syntax(number));
-    };
-    if !is_half(*count, rest.len()) {
+    let (divisor, rest) = values.first(number)?;
+    let (count, rest) = rest.first(number)?;
+    if !is_half(count, rest.len()) {
         return Err(syntax(number));
     }
-    small(number, u32::MAX, *count)?;
-    let divisor = factor(number, *divisor)?;
-    let parts = parts(alloc, rows, number, rest)?;
+    small(number, u32::MAX, count)?;
+    let divisor = factor(number, divisor)?;
+    all_parts(rows, number, &rest)?;
+    let parts = keep_parts(alloc, &rest)?;
     Ok((divisor, parts))
 }
 
@@ -98,25 +98,25 @@ pub fn node(
     ensures { Gives (λ x. x) result (node_of edges rows number (words_of line.now)) }
 {
     if has_key(b"pair".as_slice(), line) {
-        let values = keyed_numbers(alloc, b"pair".as_slice(), number, line)?;
+        let values = keyed_numbers(b"pair".as_slice(), number, line)?;
         let (e, f) = two_edges(edges, number, &values)?;
         return Ok(Some(Node::Pair(e, f)));
     }
     if has_key(b"place".as_slice(), line) {
-        let values = keyed_numbers(alloc, b"place".as_slice(), number, line)?;
+        let values = keyed_numbers(b"place".as_slice(), number, line)?;
         let (e, f) = two_edges(edges, number, &values)?;
         return Ok(Some(Node::Place(e, f)));
     }
     if has_key(b"leaf".as_slice(), line) {
-        let values = keyed_numbers(alloc, b"leaf".as_slice(), number, line)?;
+        let values = keyed_numbers(b"leaf".as_slice(), number, line)?;
         let (d, parts) = leaf(alloc, rows, number, &values)?;
         return Ok(Some(Node::Leaf {
             d,
             parts: Sequence::new(parts),
         }));
     }
-    let values = keyed_numbers(alloc, b"end".as_slice(), number, line)?;
-    no_number(number, &values)?;
+    let values = keyed_numbers(b"end".as_slice(), number, line)?;
+    values.none(number)?;
     Ok(None)
 }
 

@@ -5,7 +5,7 @@ ghost use Rattle.xn_proof.specs.Spelling.{line, numbers_of, spaced};
 use std::alloc::AllocError;
 use xn_text::put_u64;
 
-// A number behind a space.
+/// A number behind a space.
 pub fn put_number(to: &mut Vec<u8>, n: u64) -> Result<(), AllocError>
     ensures { OnOk result (to.new.items ≡ to.old.items ++ spaced (n ∷ [])) }
 {
@@ -32,7 +32,7 @@ fn put_list(to: &mut Vec<u8>, list: &[u32]) -> Result<(), AllocError>
     Ok(())
 }
 
-// A line of a key, numbers and a list.
+/// A line of a key, numbers and a list.
 pub fn put_list_line(
     to: &mut Vec<u8>,
     key: &[u8],
@@ -48,7 +48,7 @@ pub fn put_list_line(
     Ok(())
 }
 
-// A line of a key and numbers.
+/// A line of a key and numbers.
 pub fn put_line(to: &mut Vec<u8>, key: &[u8], numbers: &[u64]) -> Result<(), AllocError>
     ensures { OnOk result (to.new.items ≡ to.old.items ++ line key.now numbers.now) }
 {
@@ -58,7 +58,7 @@ pub fn put_line(to: &mut Vec<u8>, key: &[u8], numbers: &[u64]) -> Result<(), All
     Ok(())
 }
 
-// A line of a key, numbers and pairs of numbers.
+/// A line of a key, numbers and pairs of numbers.
 pub fn put_pairs_line(
     to: &mut Vec<u8>,
     key: &[u8],
