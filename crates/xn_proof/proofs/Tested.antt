@@ -14,11 +14,6 @@ use Rattle.xn_proof.proofs.Values.{at_most_is, below_is, factor_is}
 abbrev pub Leads : {X Y : Type 0} → (List X → Result Y Flaw) → (List X → Y) → List X → List X → Type 0
 Leads read view left all = (read left ≡ Ok (view left) → read all ≡ Ok (view all)) × ((e : Flaw) → read left ≡ Err e → read all ≡ Err e)
 
--- a flaw of the values that are left
-pub leads_fail : {X Y : Type 0} (read : List X → Result Y Flaw) (view : List X → Y) (e : AnswerErr) (left all : List X) → Fails e (read left) → Leads read view left all → Fails e (read all)
-leads_fail read view errors.Memory left all failed leads = tt
-leads_fail read view (errors.Refused flaw) left all failed leads = leads.1 flaw failed
-
 -- ---- each by itself
 
 pub each_leads : {X Y : Type 0} (f : X → Result Y Flaw) (known : X → Y) (left : List X) (x : X) (rest all : List X) → left ≡ x ∷ rest → f x ≡ Ok (known x) → Leads (each_at f) (map known) left all → Leads (each_at f) (map known) rest all
@@ -55,10 +50,10 @@ small_is i v n e =
 
 -- ---- two by two
 
-pub parts_leads : (rows i : ℕ) (left : List (Option ℕ)) (v w : Option ℕ) (rest all : List (Option ℕ)) (row multiplier : ℕ) → rows ≤ 2 ^ 32 → left ≡ v ∷ w ∷ rest → below i rows v ≡ Ok row → factor i w ≡ Ok multiplier
+pub parts_lead : (rows i : ℕ) (left : List (Option ℕ)) (v w : Option ℕ) (rest all : List (Option ℕ)) (row multiplier : ℕ) → rows ≤ 2 ^ 32 → left ≡ v ∷ w ∷ rest → below i rows v ≡ Ok row → factor i w ≡ Ok multiplier
     → Leads (parts_at rows i) pairs_of left all → Leads (parts_at rows i) pairs_of rest all
 unfolding parts_at
-parts_leads rows i left v w rest all row multiplier few is first second leads =
+parts_lead rows i left v w rest all row multiplier few is first second leads =
     let row_is = below_is i rows v row first in
     let multiplier_is = factor_is i w multiplier second in
     let low = row_is.1 in
