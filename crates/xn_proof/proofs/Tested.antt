@@ -1,5 +1,5 @@
 -- Values that are tested one after the other, as a loop does, with none of them kept.
-use Rattle.std.proofs.Common.{◌≡◌, ◌≢◌, ℕ, ◌-◌, ◌^◌, ◌<◌, ◌≤◌, List, [], ◌∷◌, Option, Some, None, Result, Ok, Err, map, refl, arith}
+use Rattle.std.proofs.Common.{◌≡◌, ◌≢◌, ℕ, ◌-◌, ◌^◌, ◌≤◌, List, [], ◌∷◌, Option, Some, Result, Ok, Err, map, refl, arith}
 use Rattle.std.proofs.lemmas.Bool.{lt-ltb}
 use Rattle.xn_kinds.specs.declared.flaws.Flaw.{Flaw}
 use Rattle.xn_text.specs.declared.numbers.WordNumber.{WordNumber}
@@ -7,7 +7,7 @@ use Rattle.xn_text.specs.declared.numbers.WordNumber.TheVariants.{Not, Large, Is
 use Rattle.xn_proof.specs.declared.flaw.AnswerErr.{AnswerErr}
 use Rattle.xn_proof.specs.declared.flaw.AnswerErr.TheVariants as errors
 use Rattle.xn_proof.specs.Ranges.{at_most, below, factor, large_of, pairs_of, parts_at, small_of}
-use Rattle.xn_proof.specs.Reading.{◌>>=◌, Fails, each_at, spelled, syntax, value_of}
+use Rattle.xn_proof.specs.Reading.{Fails, each_at, spelled, syntax, value_of}
 use Rattle.xn_proof.proofs.Values.{at_most_is, below_is, factor_is}
 
 -- what is read of the values that are left is read of all

@@ -1,4 +1,4 @@
-use Rattle.std.proofs.Common.{◌≡◌, ◌+◌, ◌^◌, ◌∙◌, Ok, Err, suc, length, sym, ap, arith}
+use Rattle.std.proofs.Common.{◌≡◌, ◌^◌, ◌∙◌, Ok, Err, suc, length, sym, ap, arith}
 use Rattle.xn_text.specs.Number.{word_number}
 use Rattle.xn_text.specs.Pieces.{words_of}
 use Rattle.xn_proof.specs.declared.flaw.AnswerErr.TheVariants as errors

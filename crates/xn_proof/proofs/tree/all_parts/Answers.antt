@@ -1,4 +1,4 @@
-use Rattle.std.proofs.Common.{◌≡◌, ◌≤◌, ◌^◌, ◌∷◌, ◌∙◌, [], ap, arith}
+use Rattle.std.proofs.Common.{◌≤◌, ◌^◌, ◌∷◌, ◌∙◌, ap, arith}
 use Rattle.std.proofs.lemmas.Result.{err_from_is_err_and}
 use Rattle.xn_proof.proofs.Tested.{parts_end, parts_fail_first, parts_fail_second, parts_lead, parts_odd}
 use Rattle.xn_proof.proofs.tree.all_parts.Goals as goal
