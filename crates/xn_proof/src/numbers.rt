@@ -66,7 +66,7 @@ impl<'a> Numbers<'a> {
         }
     }
 
-    /// The first number, and those after it.
+    /// The first number, and those after it. Where there is none, the line isn't of its form.
     pub fn first(&self, number: u64) -> Result<(Option<u64>, Numbers<'a>), AnswerErr>
         ensures { Gives (λ x. x) result (first_of number self.now) }
     {
@@ -77,7 +77,7 @@ impl<'a> Numbers<'a> {
         }
     }
 
-    /// No number.
+    /// Where a number is left, the line isn't of its form.
     #[tactic(auto, unfolding(crate::specs::Ranges::no_form))]
     pub fn none(&self, number: u64) -> Result<(), AnswerErr>
         ensures { Gives (λ x. x) result (no_form number self.now) }
@@ -88,7 +88,7 @@ impl<'a> Numbers<'a> {
         }
     }
 
-    /// Just one number.
+    /// The one number. Where there isn't just one, the line isn't of its form.
     pub fn one(&self, number: u64) -> Result<Option<u64>, AnswerErr>
         ensures { Gives (λ x. x) result (one_of number self.now) }
     {
@@ -102,7 +102,7 @@ impl<'a> Numbers<'a> {
         }
     }
 
-    /// Just two numbers.
+    /// The two numbers. Where there aren't just two, the line isn't of its form.
     pub fn two(&self, number: u64) -> Result<(Option<u64>, Option<u64>), AnswerErr>
         ensures { Gives (λ x. x) result (two_of number self.now) }
     {
@@ -147,7 +147,8 @@ pub fn has_key(key: &[u8], line: &[u8]) -> bool
     }
 }
 
-/// The numbers after the first word of a line, which is the key.
+/// The numbers after the first word of a line, which is the key. Where it is another word, or one after it is no number, the
+/// line isn't of its form.
 #[tactic(auto, unfolding(crate::specs::Reading::keyed))]
 pub fn keyed_numbers<'a>(key: &[u8], number: u64, line: &'a [u8]) -> Result<Numbers<'a>, AnswerErr>
     ensures { Gives (λ x. x) result (keyed key.now number (words_of line.now)) }
