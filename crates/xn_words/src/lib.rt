@@ -1,0 +1,6 @@
+//! What the words of the command line ask for.
+#![tactic(auto)]
+
+mod command;
+
+pub use command::{Command, WordsErr, read_words};
