@@ -2,5 +2,6 @@
 #![tactic(auto)]
 
 mod command;
+mod parse;
 
 pub use command::{Command, WordsErr, read_words};
