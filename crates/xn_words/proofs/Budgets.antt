@@ -67,7 +67,7 @@ module _ (position : ℕ) (rows : List Row) (pending : Option (Text × List Text
       → Fails (cond (bytes_eq word (codes "--")) [] (flag_word_fault rules false (long_of word) word (held rows pending)))
   with_value word value k h =
       let is : cond (bytes_eq word (codes "--")) [] (flag_word_fault rules false (long_of word) word (held rows pending))
-          ≡ or_else (settle_fault rules false (held rows pending)) (use_fault false budget_rule (value ∷ []) (settled_rows rules pending rows)) = rw (k.other.dashes, k.long) refl in
+      ≡ or_else (settle_fault rules false (held rows pending)) (use_fault false budget_rule (value ∷ []) (settled_rows rules pending rows)) = rw (k.other.dashes, k.long) refl in
       subst Fails (sym is) (fails_first (settle_fault rules false (held rows pending)) (use_fault false budget_rule (value ∷ []) (settled_rows rules pending rows)) h)
 
   pub value_turn_fails : (word value : Text) → HasBudget word value → Fails (settle_fault rules false (held rows pending)) → Fails (turn (state idle position rows pending false) word)

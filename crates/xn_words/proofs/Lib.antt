@@ -1,4 +1,5 @@
 mod App
+mod Asked
 mod Parsed
 mod Budgets
 mod Rows

@@ -29,7 +29,7 @@ use Rattle.xn_words.proofs.Walks.{Bad, ComesBy, Good, comes}
 
 -- ---- what a broken rule means
 
-nothing_by : (items : List Item) → (a b : List Text) → operands_of items ≡ a → budgets_of items ≡ b → asked_by a b ≡ None → request_by items ≡ None
+pub nothing_by : (items : List Item) → (a b : List Text) → operands_of items ≡ a → budgets_of items ≡ b → asked_by a b ≡ None → request_by items ≡ None
 nothing_by items a b operands budgets none = go (list_all is_useful items) (ap₂ asked_by operands budgets ∙ none)
   where
     go : (u : Bool) → asked_by (operands_of items) (budgets_of items) ≡ None → cond u (asked_by (operands_of items) (budgets_of items)) None ≡ None
@@ -59,16 +59,16 @@ bad_asks_nothing : (items : List Item) → Bad (operands_of items) (budgets_of i
 bad_asks_nothing items bad = elim bad [
   | inl useless ↦ rw useless refl
   | inr wrong ↦ elim wrong [
-      | inl many ↦ nothing_by items (operands_of items) (budgets_of items) refl refl (many_ask_nothing (operands_of items) (budgets_of items) many)
-      | inr budgets ↦ elim budgets [
-          | inl twice ↦ given (budgets_of items) refl (inl twice)
-          | inr dashed ↦ given (budgets_of items) refl (inr dashed)
-        ]
+    | inl many ↦ nothing_by items (operands_of items) (budgets_of items) refl refl (many_ask_nothing (operands_of items) (budgets_of items) many)
+    | inr budgets ↦ elim budgets [
+      | inl twice ↦ given (budgets_of items) refl (inl twice)
+      | inr dashed ↦ given (budgets_of items) refl (inr dashed)
     ]
+  ]
 ]
   where
     given : (b : List Text) → budgets_of items ≡ b → (1 < length b) ⊎ (list_any is_dashed b ≡ true) → request_by items ≡ None
-    given [] e wrong = elim wrong [ | inl twice ↦ absurd (omega arith) | inr dashed ↦ absurd (true≢false (sym dashed)) ]
+    given [] e wrong = elim wrong [ inl twice ↦ absurd (omega arith) | inr dashed ↦ absurd (true≢false (sym dashed)) ]
     given (b ∷ more) e wrong = nothing_by items (operands_of items) (b ∷ more) refl e (budgets_ask_nothing (operands_of items) b more)
 
 -- ---- what the parser asks behind the last word
@@ -147,14 +147,14 @@ module _ (program : Text) (words : List Text) (texts : AreTexts words) where
   finds : (m : ArgMatches) → fault_of app all ≡ [] → rows_of (found_of m) ≡ matches_of app all → Finds items m
   finds m none same = elim (comes words texts) [
     | inl good ↦ record {
-        useful = good.useful_is;
-        operands = good.few;
-        budgets = good.once;
-        command = found m same (codes "command") (slice_get (operands_of items) 0) good.holds.command;
-        first = found m same (codes "first") (slice_get (operands_of items) 1) good.holds.first;
-        second = found m same (codes "second") (slice_get (operands_of items) 2) good.holds.second;
-        budget = found m same (codes "budget") (slice_get (budgets_of items) 0) good.holds.budget;
-      }
+      useful = good.useful_is;
+      operands = good.few;
+      budgets = good.once;
+      command = found m same (codes "command") (slice_get (operands_of items) 0) good.holds.command;
+      first = found m same (codes "first") (slice_get (operands_of items) 1) good.holds.first;
+      second = found m same (codes "second") (slice_get (operands_of items) 2) good.holds.second;
+      budget = found m same (codes "budget") (slice_get (budgets_of items) 0) good.holds.budget;
+    }
     | inr bad ↦ absurd (bad.0 (front_none (run start words) (check_fault shape (last start words) false) (sym (fault_is all) ∙ none)))
   ]
 
@@ -170,9 +170,9 @@ module _ (program : Text) (words : List Text) (texts : AreTexts words) where
   refused e has = elim has [
     | inl memory ↦ inl memory
     | inr among ↦ inr (elim (comes words texts) [
-        | inl good ↦ missing (kind_of e) (operands_of items) (budgets_of items) refl refl good.holds good.none among
-        | inr bad ↦ bad_asks_nothing items bad.1
-      ])
+      | inl good ↦ missing (kind_of e) (operands_of items) (budgets_of items) refl refl good.holds good.none among
+      | inr bad ↦ bad_asks_nothing items bad.1
+    ])
   ]
 
 -- without the program's name the command is missing

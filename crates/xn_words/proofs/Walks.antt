@@ -257,7 +257,7 @@ unfolding operands_of budgets_of
 dashed_reads word words dashed fails operands budgets rows pending s =
     inr (
       run_fails (state idle (place operands) rows pending false) (waiting_for (place operands) (settled_rows rules pending rows)) (codes "--budget") (word ∷ words)
-      (wants_turn (place operands) rows pending s.sound) (wants_after (place operands) rows pending) (fails (place operands) (settled_rows rules pending rows)),
+          (wants_turn (place operands) rows pending s.sound) (wants_after (place operands) rows pending) (fails (place operands) (settled_rows rules pending rows)),
       inr (inr (inr (is_among word budgets (budgets_of (items_of words)) dashed))),
     )
 
@@ -288,7 +288,7 @@ plain_budget_reads word words texts k rest operands (b ∷ more) rows pending s 
     let wrong : Fails (settle_fault rules false (held now (Some (codes "budget", word ∷ [])))) = second_fails operands b more now s.holds in
     inr (
       run_fails from (waiting_for (place operands) now) (codes "--budget") (word ∷ words) (wants_turn (place operands) rows pending s.sound) (wants_after (place operands) rows pending)
-      (run_fails (waiting_for (place operands) now) to word words (value_turn (place operands) now word k) (value_after (place operands) now word k) (stays_wrong now (word ∷ []) wrong operands words texts)),
+          (run_fails (waiting_for (place operands) now) to word words (value_turn (place operands) now word k) (value_after (place operands) now word k) (stays_wrong now (word ∷ []) wrong operands words texts)),
       inr (inr (inl (twice b word more (budgets_of (items_of words))))),
     )
 
@@ -300,7 +300,7 @@ dashes_value_reads words operands budgets rows pending s =
     let now = settled_rows rules pending rows in
     inr (
       run_fails (state idle (place operands) rows pending false) (waiting_for (place operands) now) (codes "--budget") (codes "--" ∷ words) (wants_turn (place operands) rows pending s.sound) (wants_after (place operands) rows pending)
-      (dashes_fail now [] (no_value now) operands words (option (codes "budget"))),
+          (dashes_fail now [] (no_value now) operands words (option (codes "budget"))),
       inr (inr (inr (is_among (codes "--") budgets (budgets_of (items_of words)) refl))),
     )
 

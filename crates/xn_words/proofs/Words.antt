@@ -119,9 +119,9 @@ short_stray y text utf8 other no_value single =
 not_budget : (text : Text) → bytes_eq (45 ∷ 45 ∷ text) (codes "--budget") ≡ false → starts_with nat_eq (45 ∷ 45 ∷ text) (codes "--budget=") ≡ false → bytes_eq (codes "budget") (before_first is_equals text) ≡ false
 not_budget text no_budget no_value = elim (cases_Bool (bytes_eq (codes "budget") (before_first is_equals text))) [
   | inl same ↦ elim (budget_before text same) [
-      | inl whole ↦ absurd (true≢false (subst (λ (t : Text). bytes_eq (45 ∷ 45 ∷ t) (codes "--budget") ≡ false) whole no_budget))
-      | inr value ↦ absurd (true≢false (subst (λ (t : Text). starts_with nat_eq (45 ∷ 45 ∷ t) (codes "--budget=") ≡ false) value.1 no_value))
-    ]
+    | inl whole ↦ absurd (true≢false (subst (λ (t : Text). bytes_eq (45 ∷ 45 ∷ t) (codes "--budget") ≡ false) whole no_budget))
+    | inr value ↦ absurd (true≢false (subst (λ (t : Text). starts_with nat_eq (45 ∷ 45 ∷ t) (codes "--budget=") ≡ false) value.1 no_value))
+  ]
   | inr other ↦ other
 ]
 
@@ -166,22 +166,22 @@ other_kind (x ∷ y ∷ text) utf8 other no_value = elim (cases_Bool (x == 45)) 
   | inl dash ↦
       subst (λ (b : ℕ). IsUtf8 (b ∷ y ∷ text) → IsOther (b ∷ y ∷ text) → starts_with nat_eq (b ∷ y ∷ text) (codes "--budget=") ≡ false → Kind (b ∷ y ∷ text)) (sym (eqb-true x 45 dash)) (dashed_kind y text) utf8 other no_value
   | inr first ↦ plain (record {
-      other = other;
-      long = rw first refl;
-      short = rw first refl;
-      item = rw (no_value, first) refl;
-      dashed = first;
-    })
+    other = other;
+    long = rw first refl;
+    short = rw first refl;
+    item = rw (no_value, first) refl;
+    dashed = first;
+  })
 ]
 
 pub kind : (word : Text) → IsUtf8 word → Kind word
 kind word utf8 = elim (cases_Bool (bytes_eq word (codes "--"))) [
   | inl same ↦ dashes (same_bytes word (codes "--") same)
   | inr no_dashes ↦ elim (cases_Bool (bytes_eq word (codes "--budget"))) [
-      | inl same ↦ wants (same_bytes word (codes "--budget") same)
-      | inr no_budget ↦ elim (cases_Bool (starts_with nat_eq word (codes "--budget="))) [
-          | inl value ↦ has (drop 9 word) (subst (λ (w : Text). HasBudget w (drop 9 word)) (sym (with_front word value)) (has_budget (drop 9 word)))
-          | inr no_value ↦ other_kind word utf8 (record { dashes = no_dashes; wants = no_budget }) no_value
-        ]
+    | inl same ↦ wants (same_bytes word (codes "--budget") same)
+    | inr no_budget ↦ elim (cases_Bool (starts_with nat_eq word (codes "--budget="))) [
+      | inl value ↦ has (drop 9 word) (subst (λ (w : Text). HasBudget w (drop 9 word)) (sym (with_front word value)) (has_budget (drop 9 word)))
+      | inr no_value ↦ other_kind word utf8 (record { dashes = no_dashes; wants = no_budget }) no_value
     ]
+  ]
 ]

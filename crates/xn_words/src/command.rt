@@ -91,12 +91,7 @@ fn with_one(alloc: Global, command: &str, first: &str) -> Result<Command, WordsE
 }
 
 // The command with two operands after it.
-fn with_two(
-    alloc: Global,
-    command: &str,
-    first: &str,
-    second: &str,
-) -> Result<Command, WordsErr>
+fn with_two(alloc: Global, command: &str, first: &str, second: &str) -> Result<Command, WordsErr>
     ensures { GivesRequest (with_two command.now first.now second.now) result }
 {
     match command {
