@@ -1,18 +1,12 @@
 -- What is asked for, by what the parse found.
-use Rattle.std.proofs.Common.{◌≡◌, ◌∙◌, ℕ, Bool, cond, true, ◌≤◌, List, [], ◌∷◌, length, Option, Some, None, slice_get, refl, sym, ap, ap₂, codes, arith}
+use Rattle.std.proofs.Common.{◌≡◌, ◌∙◌, true, ◌≤◌, List, [], ◌∷◌, length, Some, None, slice_get, refl, sym, ap₂, codes, arith}
 use Rattle.std.specs.List.{list_all}
 use Rattle.clap.specs.Matches.{first_value, found_of}
 use Rattle.clap.specs.Walk.{Text}
 use Rattle.clap.specs.declared.parser.matches.ArgMatches.{ArgMatches}
-use Rattle.xn_words.specs.Items.{Item, budgets_of, is_useful, items_of, operands_of}
-use Rattle.xn_words.specs.Parsed.{Finds, after_name}
-use Rattle.xn_words.specs.Request.{Request, asked_by, request_by, request_of, with_one, with_two}
-use Rattle.xn_words.proofs.Parsed.{few_ask_nothing, nothing_by}
-
-request_is : (words : List Text) → request_of words ≡ request_by (items_of (after_name words))
-unfolding items_of operands_of
-request_is [] = refl
-request_is (program ∷ words) = refl
+use Rattle.xn_words.specs.Items.{Item, after_name, budgets_of, is_useful, items_of, operands_of}
+use Rattle.xn_words.specs.Parsed.{Finds}
+use Rattle.xn_words.specs.Request.{asked_by, request_by, request_of, with_one, with_two}
 
 useful_ask : (items : List Item) (operands budgets : List Text) → list_all is_useful items ≡ true → operands_of items ≡ operands → budgets_of items ≡ budgets → request_by items ≡ asked_by operands budgets
 useful_ask items operands budgets useful eo eb =
@@ -53,7 +47,7 @@ module _ (words : List Text) (m : ArgMatches) (finds : Finds (items_of (after_na
   items = items_of (after_name words)
 
   asked : request_of words ≡ asked_by (operands_of items) []
-  asked = request_is words ∙ useful_ask items (operands_of items) [] finds.useful refl (no_budgets (budgets_of items) (sym finds.budget ∙ no_budget))
+  asked = useful_ask items (operands_of items) [] finds.useful refl (no_budgets (budgets_of items) (sym finds.budget ∙ no_budget))
 
   pub without_first : first_value (found_of m) (codes "first") ≡ None → request_of words ≡ None
   without_first none = asked ∙ one_command (operands_of items) (sym finds.first ∙ none)

@@ -1,13 +1,12 @@
 -- What the parser's walk makes of a budget, and that nothing mends a second one or one without a value.
-use Rattle.std.proofs.Common.{◌≡◌, ◌∙◌, ℕ, Bool, cond, true, false, ◌&&◌, zero, suc, ◌<◌, ◌≤◌, ◌⊎◌, inl, inr, List, [], ◌∷◌, ◌++◌, length, Option, Some, None, is_some, find, fold, option_map, slice_get, refl, sym, ap, subst, bytes_eq, codes, true≢false, arith, IsUtf8}
-use Rattle.clap.specs.Faults.{flag_word_fault, settle_fault, step_fault, turn_fault, use_fault, walk_fault, word_fault}
+use Rattle.std.proofs.Common.{◌≡◌, ◌∙◌, ℕ, Bool, cond, true, false, List, [], ◌∷◌, Option, Some, refl, sym, ap, subst, bytes_eq, codes, IsUtf8}
+use Rattle.clap.specs.Faults.{flag_word_fault, settle_fault, step_fault, use_fault, walk_fault, word_fault}
 use Rattle.clap.specs.Lexer.{long_of}
 use Rattle.clap.specs.Kinds.{Kinds, or_else}
-use Rattle.clap.specs.Walk.{Row, Text, Waiting, Walk, has_row, idle, option, positional, settled_rows, walked, word_met}
-use Rattle.clap.specs.declared.error.kind.ErrorKind.TheVariants.{ArgumentConflict, InvalidValue, UnknownArgument}
+use Rattle.clap.specs.Walk.{Row, Text, Waiting, Walk, idle, option, positional, settled_rows, walked, word_met}
+use Rattle.clap.specs.declared.error.kind.ErrorKind.TheVariants.{UnknownArgument}
 use Rattle.xn_words.proofs.App.{budget_rule, rules, shape}
-use Rattle.xn_words.proofs.Rows.{Holds, has_is, is_row, placed, row, with_budget}
-use Rattle.xn_words.proofs.Steps.{Fails, IsValue, Stands, Went, after, fails_first, fresh, place, run, run_step, state, turn, unused, value_turn}
+use Rattle.xn_words.proofs.Steps.{Fails, IsValue, after, fails_first, place, run, run_step, state, turn, value_turn}
 use Rattle.xn_words.proofs.Words.{HasBudget, IsPlain, IsStray, Kind, dashes, has, held, kind, plain, strays, wants}
 
 -- every word is text

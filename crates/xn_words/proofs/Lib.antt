@@ -1,6 +1,7 @@
 mod App
 mod Asked
 mod Parsed
+mod Refusals
 mod Budgets
 mod Rows
 mod Steps

@@ -1,31 +1,31 @@
 -- What the parser's promise for simple commands says of the words.
-use Rattle.std.proofs.Common.{◌≡◌, ◌∙◌, ℕ, Bool, cond, true, false, ◌&&◌, ◌||◌, not, ◌<◌, ◌≤◌, ◌⊎◌, inl, inr, List, [], ◌∷◌, ◌++◌, length, drop, map, Option, Some, None, is_some, find, fold, option_map, slice_get, Result, Ok, Err, IfOk, MatchResult, refl, sym, ap, ap₂, subst, bytes_eq, codes, string_bytes, String, true≢false, arith, IsUtf8}
+use Rattle.std.proofs.Common.{◌≡◌, ◌∙◌, Bool, cond, true, false, ◌||◌, ◌<◌, ◌⊎◌, inl, inr, List, [], ◌∷◌, length, drop, map, Option, None, find, fold, option_map, slice_get, Result, Ok, Err, IfOk, refl, sym, ap, ap₂, subst, codes, string_bytes, String, true≢false, arith}
 use Rattle.std.specs.List.{list_all, list_any}
 use Rattle.std.specs.Option.{option_map_or}
 use Rattle.std.specs.declared.alloc.Global.{Global}
 use Rattle.std.proofs.lemmas.Str.{IsUtf8-string_bytes}
 use Rattle.clap.specs.Facts.{explicit_source}
-use Rattle.clap.specs.Faults.{built_fault, check_fault, default_fault, defaults_fault, fault_of, level_fault, settle_fault, walk_fault}
+use Rattle.clap.specs.Faults.{built_fault, check_fault, default_fault, defaults_fault, fault_of, settle_fault, walk_fault}
 use Rattle.clap.specs.Kinds.{FailsBy, HasKind, IsAmong, Kinds, or_else}
 use Rattle.clap.specs.Matches.{first_value, found_of}
-use Rattle.clap.specs.Simple.{App, HasMatchesOf, is_simple, matches_of, names_of}
+use Rattle.clap.specs.Simple.{App, HasMatchesOf, matches_of, names_of}
 use Rattle.clap.specs.Takes.{is_given}
 use Rattle.clap.specs.Values.{kind_of}
-use Rattle.clap.specs.Walk.{Row, Rule, Text, Walk, default_rows, finished, first_of, has_row, idle, nothing_held, rows_after, rows_of, walk, walked, with_default}
+use Rattle.clap.specs.Walk.{Row, Rule, Text, Walk, first_of, has_row, idle, nothing_held, rows_after, rows_of, walked, with_default}
 use Rattle.clap.specs.declared.error.Error.{Error}
 use Rattle.clap.specs.declared.error.kind.ErrorKind.{ErrorKind}
 use Rattle.clap.specs.declared.error.kind.ErrorKind.TheVariants.{MissingRequiredArgument, OutOfMemory}
 use Rattle.clap.specs.declared.parser.matches.ArgMatches.{ArgMatches}
 use Rattle.clap.proofs.FaultLemmas.{leaf_fault}
 use Rattle.clap.proofs.WalkLemmas.{first_value-rows}
-use Rattle.xn_words.specs.Items.{Item, budgets_of, is_dashed, is_useful, items_of, operands_of}
-use Rattle.xn_words.specs.Parsed.{Finds, ParsesWords, after_name}
+use Rattle.xn_words.specs.Items.{Item, after_name, budgets_of, is_dashed, is_useful, items_of, operands_of}
+use Rattle.xn_words.specs.Parsed.{Finds, ParsesWords}
 use Rattle.xn_words.specs.Request.{asked_by, request_by, request_of}
-use Rattle.xn_words.proofs.App.{app, built_is, budget_rule, command_rule, first_rule, free, rules, second_rule, shape, simple}
+use Rattle.xn_words.proofs.App.{app, built_is, budget_rule, command_rule, first_rule, rules, second_rule, shape, simple}
 use Rattle.xn_words.proofs.Budgets.{AreTexts}
 use Rattle.xn_words.proofs.Rows.{Holds, is_row, row, value_of}
-use Rattle.xn_words.proofs.Steps.{Fails, fails_first, last, or_else_assoc, run, state}
-use Rattle.xn_words.proofs.Walks.{Bad, ComesBy, Good, comes}
+use Rattle.xn_words.proofs.Steps.{last, or_else_assoc, run, state}
+use Rattle.xn_words.proofs.Walks.{Bad, comes}
 
 -- ---- what a broken rule means
 
@@ -36,14 +36,14 @@ nothing_by items a b operands budgets none = go (list_all is_useful items) (ap�
     go true e = e
     go false e = refl
 
-many_ask_nothing : (operands budgets : List Text) → 3 < length operands → asked_by operands budgets ≡ None
+pub many_ask_nothing : (operands budgets : List Text) → 3 < length operands → asked_by operands budgets ≡ None
 many_ask_nothing [] budgets many = absurd (omega arith)
 many_ask_nothing (c ∷ []) budgets many = absurd (omega arith)
 many_ask_nothing (c ∷ f ∷ []) budgets many = absurd (omega arith)
 many_ask_nothing (c ∷ f ∷ s ∷ []) budgets many = absurd (omega arith)
 many_ask_nothing (c ∷ f ∷ s ∷ x ∷ more) budgets many = refl
 
-budgets_ask_nothing : (operands : List Text) (b : Text) (more : List Text) → asked_by operands (b ∷ more) ≡ None
+pub budgets_ask_nothing : (operands : List Text) (b : Text) (more : List Text) → asked_by operands (b ∷ more) ≡ None
 budgets_ask_nothing [] b more = refl
 budgets_ask_nothing (c ∷ []) b more = refl
 budgets_ask_nothing (c ∷ f ∷ []) b more = refl
@@ -185,9 +185,13 @@ no_words none =
     some_kind : Path Kinds (MissingRequiredArgument ∷ []) [] → ⊥
     some_kind e = absurd cc
 
+none_asked : request_of [] ≡ None
+unfolding items_of operands_of
+none_asked = refl
+
 pub parsed : (words : List Text) → AreTexts (after_name words) → (r : Result ArgMatches Error) → FailsBy (fault_of app words) r → IfOk r (HasMatchesOf app words) → ParsesWords words r
 parsed [] texts (Ok m) fails matches = absurd (no_words fails)
-parsed [] texts (Err e) fails matches = inr refl
+parsed [] texts (Err e) fails matches = inr none_asked
 parsed (program ∷ words) texts (Ok m) fails matches = finds program words texts m fails (matches simple).0
 parsed (program ∷ words) texts (Err e) fails matches = refused program words texts e fails
 

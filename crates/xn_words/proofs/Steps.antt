@@ -1,11 +1,11 @@
 -- One word after the other: what the parser's walk does, and what it has found so far.
-use Rattle.std.proofs.Common.{◌≡◌, ◌∙◌, ℕ, Bool, cond, true, false, ◌&&◌, ◌||◌, not, zero, suc, ◌<◌, ◌≤◌, ◌⊎◌, inl, inr, List, [], ◌∷◌, ◌++◌, length, Option, Some, None, is_some, find, fold, option_map, slice_get, refl, sym, ap, subst, bytes_eq, codes, true≢false, arith}
-use Rattle.clap.specs.Faults.{positional_fault, settle_fault, step_fault, turn_fault, walk_fault, word_fault}
+use Rattle.std.proofs.Common.{◌≡◌, ◌∙◌, ℕ, Bool, cond, true, false, ◌&&◌, ◌||◌, ◌≤◌, ◌⊎◌, inl, inr, List, [], ◌∷◌, ◌++◌, length, Option, Some, None, is_some, find, fold, refl, sym, ap, subst, codes, arith}
+use Rattle.clap.specs.Faults.{settle_fault, step_fault, turn_fault, walk_fault, word_fault}
 use Rattle.clap.specs.Kinds.{Kinds, or_else}
-use Rattle.clap.specs.Walk.{Held, Row, Step, Text, Walk, after_step, has_row, idle, option, settled, settled_rows, value, Waiting, is_pending, pushed, arg_by_index, walked, word_met}
+use Rattle.clap.specs.Walk.{Held, Row, Step, Text, Walk, after_step, has_row, idle, settled, settled_rows, value, Waiting, is_pending, pushed, walked, word_met}
 use Rattle.clap.specs.declared.error.kind.ErrorKind.TheVariants.{ArgumentConflict}
 use Rattle.xn_words.proofs.App.{command_rule, first_rule, second_rule, rules, shape}
-use Rattle.xn_words.proofs.Rows.{Holds, has_is, is_row, placed, row, with_budget, with_command, with_first, with_second}
+use Rattle.xn_words.proofs.Rows.{Holds, has_is, is_row, placed, with_command, with_first, with_second}
 use Rattle.xn_words.proofs.Words.{held}
 
 -- the kinds of error are some

@@ -1,17 +1,17 @@
 -- What the parser's walk over all the words finds.
-use Rattle.std.proofs.Common.{◌≡◌, ◌∙◌, ℕ, Bool, cond, true, false, ◌&&◌, ◌<◌, ◌≤◌, ◌⊎◌, inl, inr, List, [], ◌∷◌, ◌++◌, length, map, Option, Some, None, is_some, find, option_map, slice_get, refl, sym, ap, ap₂, subst, bytes_eq, codes, true≢false, arith, append_assoc, append-nil, IsUtf8}
+use Rattle.std.proofs.Common.{◌≡◌, ◌∙◌, ℕ, Bool, cond, true, false, ◌&&◌, ◌<◌, ◌≤◌, ◌⊎◌, inl, inr, List, [], ◌∷◌, ◌++◌, length, map, Option, Some, None, is_some, refl, sym, ap, subst, codes, arith, append_assoc, append-nil}
 use Rattle.std.specs.List.{list_all, list_any}
-use Rattle.std.proofs.lemmas.Bool.{cases_Bool, or_left, or_right}
+use Rattle.std.proofs.lemmas.Bool.{or_left, or_right}
 use Rattle.std.proofs.lemmas.List.{length-append}
-use Rattle.clap.specs.Faults.{settle_fault, use_fault}
+use Rattle.clap.specs.Faults.{settle_fault}
 use Rattle.clap.specs.Kinds.{Kinds, or_else}
 use Rattle.clap.specs.Walk.{Row, Text, Walk, has_row, idle, option, settled_rows, used, walked}
-use Rattle.clap.specs.declared.error.kind.ErrorKind.TheVariants.{ArgumentConflict, InvalidValue}
+use Rattle.clap.specs.declared.error.kind.ErrorKind.TheVariants.{ArgumentConflict}
 use Rattle.xn_words.specs.Items.{Item, budget, budgets_of, is_dashed, is_useful, item_of, items_of, operand, operands_of, stray, unvalued}
-use Rattle.xn_words.proofs.App.{budget_rule, rules, shape}
-use Rattle.xn_words.proofs.Budgets.{AreTexts, dashes_after, dashes_fail, dashes_turn, plain_value, run_ends, run_fails, stays_wrong, stray_turn, stray_value, trailing_value, turn_fails, turn_leads, value_turn_fails, value_value_fails, wants_value_fails}
-use Rattle.xn_words.proofs.Rows.{Holds, has_is, is_row, placed, row, with_budget}
-use Rattle.xn_words.proofs.Steps.{Fails, fails_first, fails_then, IsValue, Stands, Went, after, fresh, last, operand_step, place, run, state, turn, unused}
+use Rattle.xn_words.proofs.App.{budget_rule, rules}
+use Rattle.xn_words.proofs.Budgets.{AreTexts, dashes_after, dashes_fail, dashes_turn, plain_value, run_ends, run_fails, stays_wrong, stray_turn, stray_value, trailing_value, turn_fails, turn_leads, value_value_fails, wants_value_fails}
+use Rattle.xn_words.proofs.Rows.{Holds, has_is, placed, with_budget}
+use Rattle.xn_words.proofs.Steps.{Fails, fails_first, fails_then, Stands, after, fresh, last, operand_step, place, run, state, turn, unused}
 use Rattle.xn_words.proofs.Words.{HasBudget, IsOther, IsPlain, IsStray, Kind, dashes, has, held, kind, plain, strays, wants}
 
 -- ---- what comes out

@@ -1,19 +1,18 @@
 -- What the parser makes of a word, by what the word is.
-use Rattle.std.proofs.Common.{◌≡◌, ◌∙◌, ℕ, Bool, cond, true, false, ◌&&◌, ◌||◌, List, [], ◌∷◌, ◌++◌, length, get_or, take, drop, nat_eq, ◌==◌, ◌<◌, ◌≤◌, ◌⊎◌, inl, inr, ◌≢◌, ap₂, Option, Some, None, slice_get, refl, sym, ap, subst, bytes_eq, codes, true≢false, arith, IsUtf8, encode_utf8_all}
-use Rattle.std.specs.List.{after_first, before_first, list_any, position_or_len, starts_with}
+use Rattle.std.proofs.Common.{◌≡◌, ◌∙◌, ℕ, Bool, true, false, List, [], ◌∷◌, ◌++◌, length, get_or, take, drop, nat_eq, ◌==◌, ◌⊎◌, inl, inr, ap₂, Option, Some, None, slice_get, refl, sym, ap, subst, bytes_eq, codes, true≢false, IsUtf8, encode_utf8_all}
+use Rattle.std.specs.List.{after_first, before_first, position_or_len, starts_with}
 use Rattle.std.specs.Char.{encode_utf8}
 use Rattle.std.specs.Str.{chars, is_utf8}
 use Rattle.std.proofs.lemmas.Str.{is_utf8-from_IsUtf8}
-use Rattle.std.proofs.lemmas.Bool.{cases_Bool, cases_lt, cases_eq, and_parts, eq-eqb, eqb-true, ne_eqb}
+use Rattle.std.proofs.lemmas.Bool.{cases_Bool, cases_lt, and_parts, eqb-true}
 use Rattle.std.proofs.lemmas.List.{take_all, take-append-drop}
 use Rattle.std.proofs.lemmas.List.Sums.{passes_at_first, split_at_first}
 use Rattle.std.proofs.lemmas.Slice.Eq.{bytes_eq-Decides}
 use Rattle.clap.specs.Faults.{bundle_step_fault, flag_word_fault, flags_fault}
-use Rattle.clap.specs.Kinds.{Kinds}
 use Rattle.clap.specs.Lexer.{long_of, short_of}
-use Rattle.clap.specs.Walk.{Held, Row, Text, arg_by_short}
+use Rattle.clap.specs.Walk.{Held, Row, Text}
 use Rattle.clap.specs.declared.error.kind.ErrorKind.TheVariants.{UnknownArgument}
-use Rattle.xn_words.specs.Items.{Item, budget, is_dashed, item_of, operand, stray}
+use Rattle.xn_words.specs.Items.{budget, is_dashed, item_of, operand, stray}
 use Rattle.xn_words.proofs.App.{rules}
 
 -- rows, and what waits for values

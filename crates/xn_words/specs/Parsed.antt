@@ -1,17 +1,12 @@
 -- What the parse of a list of words finds.
-use Rattle.std.specs.Prelude.{◌≡◌, ◌⊎◌, ◌≤◌, ℕ, List, [], ◌∷◌, Option, None, Result, Ok, Err, length, slice_get, true, codes}
+use Rattle.std.specs.Prelude.{◌≡◌, ◌⊎◌, ◌≤◌, ℕ, List, None, Result, Ok, Err, length, slice_get, true, codes}
 use Rattle.std.specs.List.{list_all}
 use Rattle.clap.specs.Words.{first_value, found_of, kind_of}
 use Rattle.clap.specs.declared.error.Error.{Error}
 use Rattle.clap.specs.declared.error.kind.ErrorKind.TheVariants.{OutOfMemory}
 use Rattle.clap.specs.declared.parser.matches.ArgMatches.{ArgMatches}
-use Rattle.xn_words.specs.Items.{Item, budgets_of, is_useful, items_of, operands_of}
+use Rattle.xn_words.specs.Items.{Item, after_name, budgets_of, is_useful, items_of, operands_of}
 use Rattle.xn_words.specs.Request.{request_of}
-
--- the words after the program's name
-abbrev pub after_name : List (List ℕ) → List (List ℕ)
-after_name [] = []
-after_name (program ∷ words) = words
 
 -- each word is of use, and these are all operands and budgets
 pub record Finds (items : List Item) (m : ArgMatches) : Type 0 where

@@ -1,9 +1,9 @@
-use Rattle.std.proofs.Common.{◌≡◌, ◌∙◌, rules, map, ap, subst, sym, List, Option, Some, None, string_bytes, codes}
+use Rattle.std.proofs.Common.{◌≡◌, rules, map, subst, sym, List, Option, Some, None, string_bytes, codes}
 use Rattle.clap.specs.Matches.{first_value, found_of}
 use Rattle.clap.specs.Walk.{Text}
-use Rattle.xn_words.specs.Gives.{GivesCommand, GivesRequest}
-use Rattle.xn_words.specs.Items.{items_of}
-use Rattle.xn_words.specs.Parsed.{Finds, after_name}
+use Rattle.xn_words.specs.Gives.{GivesRequest}
+use Rattle.xn_words.specs.Items.{after_name, items_of}
+use Rattle.xn_words.specs.Parsed.{Finds}
 use Rattle.xn_words.specs.Request.{Request}
 use Rattle.xn_words.proofs.Asked.{with_first, with_second, without_first}
 use Rattle.xn_words.proofs.command.read_words.Goals as goal

@@ -1,8 +1,8 @@
 use Rattle.std.proofs.Common.{◌≡◌, ◌∙◌, rules, map, ap₂, subst, true, List, string_bytes, IfOk}
 use Rattle.clap.specs.Faults.{fault_of, is_simple_and_free}
 use Rattle.clap.specs.Kinds.{FailsBy}
-use Rattle.clap.specs.Simple.{App, HasMatchesOf, app_of, new_rule, with_rule}
-use Rattle.clap.specs.Walk.{Rule, Text, rule_of}
+use Rattle.clap.specs.Simple.{App, HasMatchesOf, app_of, with_rule}
+use Rattle.clap.specs.Walk.{Text, rule_of}
 use Rattle.xn_words.proofs.App.{app, free, given_budget, given_command, given_first, given_second, start}
 use Rattle.xn_words.proofs.Parsed.{are_after, are_texts, parsed}
 use Rattle.xn_words.proofs.parse.parse.Goals as goal
