@@ -2,6 +2,8 @@
 #![tactic(auto)]
 
 mod segments;
+#[cfg(test)]
+mod tests;
 mod text;
 mod turns;
 mod writing;
