@@ -88,7 +88,7 @@ fn shown(
     pairs: &[(u32, u32)],
     turns: &[u32],
 ) -> Result<String, Fail> {
-    let graph = Graph::make(ids.len() as u32, Vec::from_slice(alloc, ends)?)?;
+    let graph = Graph::make(u32::try_from(ids.len())?, Vec::from_slice(alloc, ends)?)?;
     let orders = orders(alloc, graph.edges(), pairs)?;
     let next = Sequence::new(Vec::from_slice(alloc, turns)?);
     let drawing = Drawing { orders, next };
