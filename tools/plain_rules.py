@@ -14,8 +14,8 @@ class Flaw(Exception):
 TOKEN = re.compile(r'#[^\r\n]*|"[^"]*"|\[|\]|[^\s\[\]"]+')
 
 
-def read_gml(text):
-    """The number of nodes, the edges and the number of loops."""
+def graph_pairs(text):
+    """The pairs of the graph of a text: keys, and values that are words or lists of pairs."""
     tokens = [t for t in TOKEN.findall(text) if not t.startswith("#")]
     at = 0
 
@@ -31,20 +31,27 @@ def read_gml(text):
             found.append((key, value))
         return found
 
-    graph = next(value for key, value in pairs() if key == "graph" and isinstance(value, list))
+    return next(value for key, value in pairs() if key == "graph" and isinstance(value, list))
 
-    def first(block, key):
-        return int(next(value for k, value in block if k == key))
 
-    names = {}
-    for key, block in graph:
-        if key == "node" and isinstance(block, list):
-            names[first(block, "id")] = len(names)
-    ends = [
-        (names[first(block, "source")], names[first(block, "target")])
-        for key, block in graph
-        if key == "edge" and isinstance(block, list)
-    ]
+def blocks(pairs, key):
+    return [value for k, value in pairs if k == key and isinstance(value, list)]
+
+
+def number_at(block, key):
+    return int(next(value for k, value in block if k == key))
+
+
+def read_ids(text):
+    """The ids of the nodes, in order."""
+    return [number_at(block, "id") for block in blocks(graph_pairs(text), "node")]
+
+
+def read_gml(text):
+    """The number of nodes, the edges and the number of loops."""
+    names = {name: v for v, name in enumerate(read_ids(text))}
+    edges = blocks(graph_pairs(text), "edge")
+    ends = [(names[number_at(block, "source")], names[number_at(block, "target")]) for block in edges]
     edges = [e for e in ends if e[0] != e[1]]
     return len(names), edges, len(ends) - len(edges)
 
