@@ -1,8 +1,9 @@
 #!/usr/bin/env python3
 """Compares `xnum check` with tools/plain_check.py on changed answers: python3 tools/compare_checks.py GRAPH ANSWER COUNT [PROGRAM]
 
-COUNT times one to three small changes are made to the answer: a number, a word, a space, a line, two lines changed for each other, the end.
-Both must print the same line with the same status. Each answer on which they differ is written to /tmp/differs-N.answer.
+COUNT times one to three small changes are made to the answer: a number, two numbers of lines of one kind or two lines changed for each
+other, a line, a space, the end. Both must print the same line with the same status. Each answer on which they differ is written to
+/tmp/differs-N.answer.
 """
 import collections
 import pathlib
@@ -15,25 +16,42 @@ import plain_check
 from plain_rules import read_gml
 
 
+# where the number of words that follow stands
+COUNTS = {"along": 1, "over": 2, "path": 1, "extension": 1, "leaf": 2}
+
+
 def other_number(word, generator):
-    near = [str(int(word) + step) for step in (-2, -1, 1, 2)] if word.isdigit() else []
+    near = [str(max(0, int(word) + step)) for step in (-2, -1, 1, 2)] if word.isdigit() else []
     far = ["0", "1", "7", "00", "-1", "", "x", str(2**32), str(2**63 - 1), str(2**63), str(2**64), str(2**70)]
     return generator.choice(near * 20 + far)
 
 
+def lines_of(lines, key):
+    return [i for i, line in enumerate(lines) if line.split(" ")[0] == key]
+
+
+def some_place(words, generator):
+    """A place of a number, seldom that of a count."""
+    j = generator.randrange(1, len(words))
+    return generator.randrange(1, len(words)) if j == COUNTS.get(words[0]) else j
+
+
 def changed(lines, generator):
-    """The lines with one change."""
+    """The lines with one change. A kind of line is chosen first, since some kinds have many lines."""
     lines = lines[:]
-    i = generator.randrange(len(lines))
+    i = generator.choice(lines_of(lines, generator.choice(sorted({line.split(" ")[0] for line in lines}))))
     kind = generator.randrange(20)
     words = lines[i].split(" ")
-    if kind < 16 and len(words) > 1:
-        j, k = generator.randrange(1, len(words)), generator.randrange(1, len(words))
-        if kind < 14 or j == k:
-            words[j] = other_number(words[j], generator)
-        else:
-            words[j], words[k] = words[k], words[j]
+    if kind < 11 and len(words) > 1:
+        j = some_place(words, generator)
+        words[j] = other_number(words[j], generator)
         lines[i] = " ".join(words)
+    elif kind < 16 and len(words) > 1:
+        like = generator.choice(lines_of(lines, words[0]))
+        others = words if like == i else lines[like].split(" ")
+        j, k = some_place(words, generator), some_place(others, generator) if len(others) > 1 else 0
+        words[j], others[k] = others[k], words[j]
+        lines[i], lines[like] = " ".join(words), " ".join(others)
     elif kind == 16:
         del lines[i]
     elif kind == 17:
