@@ -6,6 +6,7 @@
 | k6 | six rows over K5 and one leaf | 3 3 |
 | petersen | ten rows over the graph without one node, and one leaf | 2 2 |
 | searched | K6 by a plain search with no linear program: some 4,300 nodes and 200 rows, most with planted crossings | 3 3 |
+| k34 | K3,4 by the same search: some 600 nodes | 2 2 |
 | large | K6 with 1,000 rows and 100,000 leaves of 10 parts: some 20 MB | 3 3 |
 
 Drawings come from straight lines between whole points: crossings, orders and turns are read off exactly. Evidence is found by routing
@@ -21,6 +22,7 @@ import plain_check
 from plain_rules import FIVE, THREE, State, crossings, independent, independent_pairs, read_gml, web
 
 K6 = (6, [(u, v) for u in range(6) for v in range(u + 1, 6)])
+K34 = (7, [(u, v) for u in range(3) for v in range(3, 7)])
 PETERSEN = (
     10,
     [(i, (i + 1) % 5) for i in range(5)] + [(i, i + 5) for i in range(5)] + [(5 + i, 5 + (i + 2) % 5) for i in range(5)],
@@ -406,6 +408,9 @@ def make(name):
     if name == "searched":
         rows, tree = search(K6, 3, generator, 4)
         return K6, 3, 3, rows, tree
+    if name == "k34":
+        rows, tree = search(K34, 2, generator, 4)
+        return K34, 2, 2, rows, tree
     rows, fives, others = large_rows(K6, 1000, generator)
     tree = large_tree(K6, 100_000, lambda: large_leaf(fives, others, generator), generator)
     return K6, 3, 3, rows, tree
@@ -413,7 +418,7 @@ def make(name):
 
 def main():
     folder = pathlib.Path(sys.argv[1])
-    for name in sys.argv[2:] or ["k6", "petersen", "searched", "large"]:
+    for name in sys.argv[2:] or ["k6", "petersen", "searched", "k34", "large"]:
         graph, lower, upper, rows, tree = make(name)
         points = place_points(graph, upper, random.Random(1))
         text = answer(graph, lower, points, rows, tree)
