@@ -15,6 +15,8 @@ mod stream;
 #[cfg(test)]
 mod tests;
 mod token;
+#[cfg(test)]
+mod tool_texts;
 
 pub use errors::GmlErr;
 pub use reader::{Read, read_graph};

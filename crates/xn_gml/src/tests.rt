@@ -34,14 +34,14 @@ fn repeated(
     Ok(text)
 }
 
-/// A graph of so many nodes with ids from 0 on.
-fn nodes(alloc: Global, count: u32) -> Result<String, Fail> {
+/// The text of a graph of so many nodes with ids from 0 on, then a last piece.
+fn nodes(alloc: Global, count: u32, last: &str) -> Result<String, Fail> {
     let mut text = String::new(alloc);
     text.push_str("graph [ ")?;
     for id in 0..count {
         text.push_str(format!(in alloc; "node [ id {id} ] ")?.as_str())?;
     }
-    text.push_str("]")?;
+    text.push_str(last)?;
     Ok(text)
 }
 
@@ -119,6 +119,7 @@ fn the_first_refusal_is_given(rt: HostRuntime) -> Result<(), Fail> {
         refusal(alloc, "graph 1 list [ graph [ ] ]")?,
         GmlErr::NoGraph
     );
+    assert_eq!(rt; refusal(alloc, "")?, GmlErr::NoGraph);
     Ok(())
 }
 
@@ -129,6 +130,10 @@ fn places_and_orders_of_refusals(rt: HostRuntime) -> Result<(), Fail> {
     assert_eq!(rt; refusal(alloc, "graph [ a#b ]")?, GmlErr::Syntax(8));
     assert_eq!(rt; refusal(alloc, "graph [ ] 5.5 a")?, GmlErr::Syntax(10));
     assert_eq!(rt; refusal(alloc, "graph [ x . ]")?, GmlErr::Syntax(10));
+    assert_eq!(rt;
+        refusal(alloc, "\u{FEFF}\u{FEFF}graph[]")?,
+        GmlErr::Syntax(3)
+    );
     assert_eq!(rt;
         refusal(alloc, "graph [ node [ id \"1\" id 1 ] ]")?,
         GmlErr::Range(18)
@@ -150,6 +155,18 @@ fn places_and_orders_of_refusals(rt: HostRuntime) -> Result<(), Fail> {
         GmlErr::Range(31)
     );
     assert_eq!(rt;
+        refusal(alloc, "graph [ node [ id [ ] id 1 ] ]")?,
+        GmlErr::Range(18)
+    );
+    assert_eq!(rt;
+        refusal(alloc, "graph [ node [ id 1 ] edge [ source 2 target x ] ]")?,
+        GmlErr::Range(45)
+    );
+    assert_eq!(rt;
+        refusal(alloc, "graph [ node [ id 1 ] edge [ source 2 target 3 ] ]")?,
+        GmlErr::Unknown(36)
+    );
+    assert_eq!(rt;
         refusal(alloc, "graph [ edge [ source 1 target 1 ] node [ ] ]")?,
         GmlErr::NoId(40)
     );
@@ -160,6 +177,10 @@ fn places_and_orders_of_refusals(rt: HostRuntime) -> Result<(), Fail> {
 fn texts_with_a_graph(rt: HostRuntime) -> Result<(), Fail> {
     let alloc = rt.alloc();
     assert_eq!(rt; sizes(alloc, b"\xEF\xBB\xBFgraph[]".as_slice())?, (0, 0, 0));
+    assert_eq!(rt;
+        sizes(alloc, b"s \"a\"#\"\r\ngraph[#]\r]graph 1".as_slice())?,
+        (0, 0, 0)
+    );
     assert_eq!(rt;
         sizes(alloc, b"x .5 y 5. z +1e-5 s \"a\nb\"graph[]#".as_slice())?,
         (0, 0, 0)
@@ -190,15 +211,26 @@ fn limits_are_kept(rt: HostRuntime) -> Result<(), Fail> {
     assert_eq!(rt; sizes(alloc, full.as_bytes())?, (2, 1000, 1));
     let more = repeated(alloc, pair, edge, 1001, "]")?;
     assert_eq!(rt; refusal(alloc, more.as_str())?, GmlErr::TooManyEdges);
-    assert_eq!(rt; sizes(alloc, nodes(alloc, 1000)?.as_bytes())?, (1000, 0, 0));
     assert_eq!(rt;
-        refusal(alloc, nodes(alloc, 1001)?.as_str())?,
+        sizes(alloc, nodes(alloc, 1000, "]")?.as_bytes())?,
+        (1000, 0, 0)
+    );
+    assert_eq!(rt;
+        refusal(alloc, nodes(alloc, 1001, "]")?.as_str())?,
         GmlErr::TooManyNodes
     );
+    assert_eq!(rt;
+        refusal(alloc, nodes(alloc, 1000, "node [ ] ]")?.as_str())?,
+        GmlErr::TooManyNodes
+    );
+    let unknown = repeated(alloc, pair, edge, 1000, "edge [ source 1 target 3 ] ]")?;
+    assert_eq!(rt; refusal(alloc, unknown.as_str())?, GmlErr::Unknown(27_059));
     let deep = repeated(alloc, "graph [ ", "a [ ", 64, "")?;
     assert_eq!(rt; refusal(alloc, deep.as_str())?, GmlErr::Deep(262));
     let less = repeated(alloc, "graph [ ", "a [ ", 63, "")?;
     assert_eq!(rt; refusal(alloc, less.as_str())?, GmlErr::Syntax(260));
+    let key = repeated(alloc, "graph [ ", "a [ ", 63, "[")?;
+    assert_eq!(rt; refusal(alloc, key.as_str())?, GmlErr::Syntax(260));
     Ok(())
 }
 

@@ -1,0 +1,207 @@
+#!/usr/bin/env python3
+"""Checks an answer for a graph, plainly and slowly: python3 tools/plain_check.py GRAPH ANSWER [EVERY]
+
+It prints `accepted LOWER UPPER`, or `refused LINE ..` with the first flaw. It shares nothing with the program:
+bounds are sums of whole numbers variable by variable, components are found by walks, and flat insertions are all tried. With EVERY, only
+each EVERYth leaf has its bound computed; all else is still checked. The graph's text is taken to be GML that the program would read.
+"""
+import re
+import sys
+
+from plain_rules import Flaw, State, bound, examine, independent_pairs, read_gml, row_flaw, row_terms
+
+NUMBER = re.compile(rb"0|[1-9][0-9]*")
+WORD = 1 << 32
+
+
+class Refused(Exception):
+    """The line and what is wrong with it."""
+
+    def __init__(self, line, text):
+        super().__init__(f"refused {line} {text}")
+
+
+class Text:
+    def __init__(self, data):
+        self.data, self.at, self.number = data, 0, 0
+
+    def words(self):
+        self.number += 1
+        end = self.data.find(b"\n", self.at)
+        if end < 0:
+            self.refuse("syntax")
+        words = self.data[self.at : end].split(b" ")
+        self.at = end + 1
+        return words
+
+    def refuse(self, text):
+        raise Refused(self.number, text)
+
+    def range_test(self, *bounds):
+        """Pairs of a number and the first one past its range."""
+        if any(number >= end for number, end in bounds):
+            self.refuse("number")
+
+    def line(self, key, count):
+        """The numbers of a line with so many numbers."""
+        return self.numbers(self.words(), key, count)
+
+    def numbers(self, words, key, count):
+        if words[0] != key or not all(NUMBER.fullmatch(w) for w in words[1:]):
+            self.refuse("syntax")
+        found = list(map(int, words[1:]))
+        if isinstance(count, int):
+            good = len(found) == count
+        else:
+            place, width = count  # the number at this place says how many groups of this width follow
+            good = len(found) > place and len(found) == place + 1 + found[place] * width
+        if not good:
+            self.refuse("syntax")
+        return found
+
+    def marker(self, words):
+        if self.words() != words.split(b" "):
+            self.refuse("syntax")
+
+    def judged(self, call, prefix=""):
+        try:
+            return call()
+        except Flaw as flaw:
+            self.refuse(prefix + str(flaw))
+
+
+def read_front(text, graph):
+    """The bounds, where the drawing is one of the graph."""
+    nodes, edges, loops = graph
+    text.marker(b"crossing-answer 1")
+    n, m = text.line(b"graph", 2)
+    text.range_test((n, 1001), (m, 1001))
+    if (n, m) != (nodes, len(edges)):
+        text.refuse("size-differs")
+    (said,) = text.line(b"loops", 1)
+    text.range_test((said, 1 << 64))
+    if said != loops:
+        text.refuse("size-differs")
+    for e in range(m):
+        u, v = text.line(b"edge", 2)
+        text.range_test((u, n), (v, n))
+        if u == v:
+            text.refuse(f"loop {e}")
+        if (u, v) != edges[e]:
+            text.refuse(f"edge-differs {e}")
+    lower, upper = text.line(b"bounds", 2)
+    text.range_test((lower, 499501), (upper, 499501))
+    spent, budget = text.line(b"effort", 2)
+    text.range_test((budget, 200001), (spent, budget + 1))
+    orders = []
+    for _ in range(m):
+        k, *own = text.line(b"along", (0, 1))
+        text.range_test((k, 1000), *((f, WORD) for f in own))
+        orders.append(own)
+    turns = []
+    for _ in range(m + sum(map(len, orders))):
+        turns += text.line(b"turn", 2)
+        text.range_test((turns[-2], WORD), (turns[-1], WORD))
+    text.marker(b"drawn")
+    counted = text.judged(lambda: examine(nodes, edges, orders, turns))
+    if counted != upper:
+        text.refuse(f"count {upper} {counted}")
+    return lower, upper
+
+
+def read_row(text, edges):
+    (size,) = text.line(b"row", 1)
+    text.range_test((size, len(edges) + 1))
+    listed, lists = [], []
+    for _ in range(size):
+        e, k, *own = text.line(b"over", (1, 1))
+        text.range_test((e, WORD), (k, 1000), *((f, WORD) for f in own))
+        listed.append(e)
+        lists.append(own)
+    words = text.words()
+    if words[0] == b"extension":
+        k, *paths = text.numbers(words, b"extension", (0, 1))
+        text.range_test((k, 1000001), *((s, WORD) for s in paths))
+        return listed, lists, b"extension", [], paths
+    kind = b"three" if words[0] == b"three" else b"five"
+    branch = text.numbers(words, kind, 6 if kind == b"three" else 5)
+    text.range_test(*((b, WORD) for b in branch))
+    paths = []
+    for _ in range(9 if kind == b"three" else 10):
+        k, *path = text.line(b"path", (0, 1))
+        text.range_test((k, 1000001), *((s, WORD) for s in path))
+        paths.append(path)
+    return listed, lists, kind, branch, paths
+
+
+def judge_leaf(text, words, number, state, given, every):
+    """Judges a leaf. Given are the pairs, the terms of the rows, the lower bound and the number of leaves so far."""
+    pairs, terms, lower, leaves = given
+    divisor, _, *flat = text.numbers(words, b"leaf", (1, 2))
+    parts = list(zip(flat[::2], flat[1::2]))
+    text.range_test(*((x - 1 if x else 1 << 63, (1 << 63) - 1) for x in [divisor] + flat[1::2]), *((r, len(terms)) for r, _ in parts))
+    if state is None or any(a >= b for (a, _), (b, _) in zip(parts, parts[1:])):
+        text.refuse(f"tree {number}")
+    if leaves % every == 0:
+        found, need = bound(pairs, terms, state, divisor, parts), divisor * (lower - 1)
+        if found <= need:
+            text.refuse(f"weak {found} {need}")
+
+
+def judge_tree(text, edges, terms, lower, every):
+    pairs = independent_pairs(edges)
+    pending, number, leaves = [State({}, {})], 0, 0
+    while True:
+        words = text.words()
+        if words == [b"end"]:
+            break
+        state = pending.pop() if pending else None
+        if words[0] == b"leaf":
+            judge_leaf(text, words, number, state, (pairs, terms, lower, leaves), every)
+            leaves += 1
+        else:
+            kind = b"place" if words[0] == b"place" else b"pair"
+            e, f = text.numbers(words, kind, 2)
+            text.range_test((e, len(edges)), (f, len(edges)))
+            children = state.children(edges, kind, e, f) if state else None
+            if children is None:
+                text.refuse(f"tree {number}")
+            pending += reversed(children)
+        number += 1
+    if pending:
+        text.refuse(f"tree {number}")
+
+
+def check(graph, data, every=1):
+    """The bounds that are accepted; raises what is refused."""
+    nodes, edges, _ = graph
+    text = Text(data)
+    lower, upper = read_front(text, graph)
+    (count,) = text.line(b"rows", 1)
+    text.range_test((count, (1 << 20) + 1))
+    terms = []
+    for i in range(count):
+        row = read_row(text, edges)
+        text.judged(lambda: row_flaw(nodes, edges, row), f"row {i} ")
+        terms.append(row_terms(edges, row))
+    text.marker(b"tree")
+    judge_tree(text, edges, terms, lower, every)
+    if text.at < len(data):
+        text.number += 1
+        text.refuse("trailing")
+    return lower, upper
+
+
+def main():
+    graph = read_gml(open(sys.argv[1], encoding="latin-1").read())
+    data = open(sys.argv[2], "rb").read()
+    try:
+        lower, upper = check(graph, data, int(sys.argv[3]) if len(sys.argv) > 3 else 1)
+        print("accepted", lower, upper)
+    except Refused as refused:
+        print(refused)
+        sys.exit(1)
+
+
+if __name__ == "__main__":
+    main()
