@@ -1,2 +1,10 @@
+pub mod DrawItems
+pub mod DrawLaw
+pub mod Drawn
 pub mod Ends
+pub mod Folds
+pub mod FrontPlaces
+pub mod Items
+pub mod Spelled
 pub mod Stages
+pub mod Taken

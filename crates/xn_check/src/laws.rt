@@ -1,5 +1,5 @@
 //! Laws on the verdict. Each is the contract of a function whose body only names the law that it stands on.
-ghost use Rattle.xn_check.specs.Laws.{AcceptedHasProof, AcceptedTextBounds};
+ghost use Rattle.xn_check.specs.Laws.{AcceptedHasProof, AcceptedTextBounds, DrawnWhereSpelled};
 
 use xn_sound::laws::accepted_proofs;
 
@@ -14,3 +14,9 @@ pub fn accepted_bounds()
 {
     accepted_proofs();
 }
+
+/// The drawing of a text is accepted exactly where the text is the one spelling of an answer for the graph that has this drawing,
+/// with its upper bound of crossings.
+pub fn drawn_texts()
+    ensures { DrawnWhereSpelled }
+{}

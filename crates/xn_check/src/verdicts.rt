@@ -3,10 +3,13 @@ ghost use Rattle.xn_check.specs.Gives.{GivesDrawing, GivesVerdict};
 ghost use Rattle.xn_proof.specs.Spelling.{text_of};
 ghost use Rattle.xn_proof.specs.WellFormed.{WellFormed};
 
+use crate::front::DrawingJudge;
+use crate::refusals::refused;
 use std::alloc::Global;
 use xn_graph::Graph;
-use xn_kinds::{Answer, Drawing};
-use xn_proof::AnswerErr;
+use xn_kinds::{Answer, Drawing, FlawKind};
+use xn_proof::{AnswerErr, Forms};
+use xn_text::Lines;
 
 /// The bounds of an answer that is accepted.
 #[derive(Clone, Copy, Debug, PartialEq, Eq)]
@@ -53,5 +56,18 @@ pub fn draw_text(
 ) -> Result<Drawing, AnswerErr>
     ensures { GivesDrawing graph.now loops text.now result }
 {
-    Err(AnswerErr::Memory)
+    let mut lines = Lines::new(text);
+    let mut forms = Forms::new();
+    let mut judge = DrawingJudge::new(alloc, graph, loops);
+    let mut number = 1;
+    while let Some(line) = lines.next() {
+        let item = forms.line(alloc, line.bytes, line.ended)?;
+        judge.item(alloc, number, &item)?;
+        number += 1;
+    }
+    if forms.done() {
+        Ok(judge.into_drawing())
+    } else {
+        Err(refused(number, FlawKind::Syntax))
+    }
 }
