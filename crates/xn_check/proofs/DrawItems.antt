@@ -114,8 +114,9 @@ module _ (g : Graph) (loops : ℕ) where
   edges_are [] f fits agree = sym (drop_of_length-le g.ends (omega (arith, fits)))
   edges_are (e ∷ es) f fits agree =
       let rest = edges_are es (record f { edges = f.edges + 1 }) (omega (arith, fits)) agree.1 in
+      let next : f.edges + 1 ≡ suc f.edges = omega arith in
       ap (λ (x : ℕ × ℕ). x ∷ es) agree.0
-      ∙ ap (λ (xs : List (ℕ × ℕ)). ends_at g.ends f.edges ∷ xs) (rest ∙ ap (λ (n : ℕ). drop n g.ends) (omega arith))
+      ∙ ap (λ (xs : List (ℕ × ℕ)). ends_at g.ends f.edges ∷ xs) (rest ∙ ap (λ (n : ℕ). drop n g.ends) next)
       ∙ sym (drop-cons g.ends f.edges (0, 0) (omega (arith, fits)))
 
   pub edges_agree : (es : List (ℕ × ℕ)) (f : FrontSaid) → f.edges + length es ≡ length g.ends → es ≡ drop f.edges g.ends →
@@ -125,7 +126,8 @@ module _ (g : Graph) (loops : ℕ) where
       let split = same ∙ drop-cons g.ends f.edges (0, 0) (omega (arith, fits)) in
       let first : e ≡ ends_at g.ends f.edges = cc in
       let others : es ≡ drop (suc f.edges) g.ends = cc in
-      (first, edges_agree es (record f { edges = f.edges + 1 }) (omega (arith, fits)) (others ∙ ap (λ (n : ℕ). drop n g.ends) (omega arith)))
+      let next : suc f.edges ≡ f.edges + 1 = omega arith in
+      (first, edges_agree es (record f { edges = f.edges + 1 }) (omega (arith, fits)) (others ∙ ap (λ (n : ℕ). drop n g.ends) next))
 
   -- ---- order lists and turns
 

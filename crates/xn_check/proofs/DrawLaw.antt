@@ -1,5 +1,5 @@
 -- The draw verdict in the words of the answer.
-use Rattle.std.proofs.Common.{◌≡◌, ℕ, ◌+◌, ◌*◌, ◌^◌, ◌<◌, ◌×◌, List, [], ◌∷◌, ◌++◌, length, drop, Ok, refl, sym, subst, ap, ◌∙◌, arith}
+use Rattle.std.proofs.Common.{◌≡◌, ℕ, ◌+◌, ◌*◌, ◌^◌, ◌<◌, List, [], ◌∷◌, ◌++◌, length, drop, Ok, refl, sym, subst, ap, ◌∙◌, arith}
 use Rattle.xn_model.specs.Drawing.{IsListedDrawing, order_of}
 use Rattle.xn_model.specs.Graph.{Graph}
 use Rattle.xn_model.specs.Lists.{total}
@@ -11,6 +11,7 @@ use Rattle.xn_proof.specs.WellFormed.{WellFormed}
 use Rattle.xn_proof.specs.declared.item.Item.{Item}
 use Rattle.xn_proof.specs.declared.item.Item.TheVariants as item
 use Rattle.xn_check.specs.FrontSaid.{FrontSaid, no_front}
+use Rattle.xn_check.specs.Judging.{Rules}
 use Rattle.xn_check.specs.Laws.{DrawnWhereSpelled, Spells, SpellsDrawing}
 use Rattle.xn_check.specs.Verdict.{DrawVerdict, draw_rules}
 use Rattle.xn_check.proofs.DrawItems.{all_passed, drawing_said, edge_items, edges_agree, edges_are, edges_said, proof_pass}
@@ -25,7 +26,8 @@ pub record IsFor (g : Graph) (loops : ℕ) (a : Answer) : Type 0 where
   pub crossings : a.upper ≡ crossing_count g (order_of g a.drawing.orders)
 
 module _ (g : Graph) (loops : ℕ) (a : Answer) where
-  abbrev R = draw_rules g loops
+  abbrev R : Rules FrontSaid Drawing
+  R = draw_rules g loops
 
   -- the items up to the edges, those up to `drawn`, and those after it
   abbrev proof_items : List Item
@@ -64,16 +66,20 @@ module _ (g : Graph) (loops : ℕ) (a : Answer) where
   pub is_for : WellFormed a → AllAgree R no_front (items_of a) → IsFor g loops a
   is_for fine all =
       let es = edge_items g loops a.graph.ends in
-      let sized = agree_tail R no_front _ _ all in
-      let size = agree_head R no_front _ _ sized in
-      let looped = agree_tail R no_front _ _ sized in
-      let rest = agree_tail R no_front _ _ looped in
+      let edges_on = es ++ with_bounds in
+      let loops_on = item.Loops a.loops ∷ edges_on in
+      let size_on = item.Graph a.graph.nodes (length a.graph.ends) ∷ loops_on in
+      let sized = agree_tail R no_front (item.Header 1) size_on all in
+      let size : (a.graph.nodes ≡ g.nodes) × (length a.graph.ends ≡ length g.ends) = agree_head R no_front (item.Graph a.graph.nodes (length a.graph.ends)) loops_on sized in
+      let looped = agree_tail R no_front (item.Graph a.graph.nodes (length a.graph.ends)) loops_on sized in
+      let rest = agree_tail R no_front (item.Loops a.loops) edges_on looped in
       let edges = edges_are g loops a.graph.ends no_front (omega (arith, size.1)) (agree_first R no_front es with_bounds rest) in
       let bounded = subst (λ (f : FrontSaid). AllAgree R f with_bounds) (edges_said g loops a.graph.ends no_front) (agree_rest R no_front es with_bounds rest) in
-      let drawing = agree_tail R (record after_edges { lower = a.lower; upper = a.upper }) _ _ (agree_tail R after_edges _ _ bounded) in
+      let effort_on = item.Effort a.spent a.budget ∷ with_drawing in
+      let drawing = agree_tail R after_bounds (item.Effort a.spent a.budget) with_drawing (agree_tail R after_edges (item.Bounds a.lower a.upper) effort_on bounded) in
       let drawn = agree_rest R after_bounds (drawing_items a.drawing) (item.Drawn ∷ proof_items) drawing in
       let judged = agree_head R after_drawing item.Drawn proof_items (subst (λ (f : FrontSaid). AllAgree R f (item.Drawn ∷ proof_items)) (drawn_said fine) drawn) in
-      record { same_graph = same a.graph size.0 edges; same_loops = agree_head R no_front _ _ looped; drawing = judged.0; crossings = judged.1 }
+      record { same_graph = same a.graph size.0 edges; same_loops = agree_head R no_front (item.Loops a.loops) edges_on looped; drawing = judged.0; crossings = judged.1 }
     where
       same : (h : Graph) → h.nodes ≡ g.nodes → h.ends ≡ drop 0 g.ends → h ≡ g
       same h nodes ends = ap (λ (n : ℕ). record { nodes = n; ends = h.ends }) nodes ∙ ap (λ (es : List (ℕ × ℕ)). record { nodes = g.nodes; ends = es }) ends
@@ -90,7 +96,7 @@ module _ (g : Graph) (loops : ℕ) (a : Answer) where
       let bounded : AllAgree R after_edges with_bounds = (tt, (tt, drawing)) in
       let rest = subst (λ (f : FrontSaid). AllAgree R f with_bounds) (sym (edges_said g loops a.graph.ends no_front)) bounded in
       let edges = edges_agree g loops a.graph.ends no_front (omega (arith, count)) (ap (λ (h : Graph). h.ends) is.same_graph) in
-      let sizes = (ap (λ (h : Graph). h.nodes) is.same_graph, count) in
+      let sizes : (a.graph.nodes ≡ g.nodes) × (length a.graph.ends ≡ length g.ends) = (ap (λ (h : Graph). h.nodes) is.same_graph, count) in
       (tt, (sizes, (is.same_loops, agree_join R no_front es with_bounds edges rest)))
 
 drawn_is_spelled : (g : Graph) (loops : ℕ) (text : List ℕ) (d : Drawing) → length text < 2 ^ 63 → DrawVerdict g loops text (Ok d) → SpellsDrawing g loops text d

@@ -51,7 +51,7 @@ module _ {S A : Type 0} (rules : Rules S A) (text : List ℕ) where
   stops_rule errors.Memory at s t left after line next taken is judged leads = tt
   stops_rule (errors.Refused flaw) at s t left after line next taken is judged leads =
       by_line at s left after line (Ok next) (Err flaw) taken is leads
-      (inr (flaw.kind, (judged.0, ap (λ (n : ℕ). Err (record { line = n; kind = flaw.kind })) judged.1)))
+      (inr (flaw.kind, judged.0, ap (λ (n : ℕ). Err (record { line = n; kind = flaw.kind })) judged.1))
 
   -- no line is left
   pub ends : (at : State) (s : S) (left : ℕ × List ℕ) (b : Bool) (o : Result A Flaw) → lines_of left ≡ [] → b ≡ is_end at.1 →

@@ -32,7 +32,7 @@ numbered_few number (piece ∷ second ∷ others) = let rest = numbered_few (num
 
 few_lines : (text : List ℕ) → length text < 2 ^ 63 → length (text_lines text) < 2 ^ 64 - 1
 few_lines text short =
-    let lines = length-map (lines_of (1, text)) (λ l. (l.1, l.2)) in
+    let lines : length (text_lines text) ≡ length (lines_of (1, text)) = length-map (lines_of (1, text)) (λ l. (l.1, l.2)) in
     let few = numbered_few 1 (slice_split is_line_end text) in
     let pieces = length-slice_split is_line_end text in
     let ends = count_by-le-length is_line_end text in

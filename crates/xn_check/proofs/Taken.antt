@@ -1,5 +1,5 @@
 -- Lines that keep their forms.
-use Rattle.std.proofs.Common.{◌≡◌, ℕ, Bool, true, false, cond, List, Result, Ok, Err, refl, ap, ◌∙◌}
+use Rattle.std.proofs.Common.{◌≡◌, ℕ, ◌+◌, ◌-◌, ◌^◌, Bool, true, false, cond, List, Result, Ok, Err, min, refl, ap, ◌∙◌}
 use Rattle.xn_kinds.specs.declared.flaws.Flaw.{Flaw}
 use Rattle.xn_text.specs.Pieces.{words_of}
 use Rattle.xn_proof.specs.Forms.{Line, State, is_end, next_at, rule_at, words_at}
@@ -24,3 +24,9 @@ taken at line next e =
     let first = bind_ok (rule_at at.1 at.0 line) _ next e in
     tests (is_end at.1) line.1 _ _ _ (next.0, next.1.1)
     (first.1 ∙ ap (λ (n : Item × State). Ok (n.0, n.1.1)) (ok_is _ next first.2))
+
+-- the number of the next line
+pub counts_on : (at : State) (line : Line) (next : Item × State) → next_at at line ≡ Ok next → min (at.0 + 1) (2 ^ 64 - 1) ≡ next.1.0
+counts_on at line next e =
+    let first = bind_ok (rule_at at.1 at.0 line) (λ x. Ok (x.0, (min (at.0 + 1) (2 ^ 64 - 1), x.1))) next e in
+    ap (λ (n : Item × State). n.1.0) (ok_is (first.0.0, (min (at.0 + 1) (2 ^ 64 - 1), first.0.1)) next first.2)

@@ -62,23 +62,23 @@ impl<'a> DrawingJudge<'a> {
 
     /// Judges the next line, which has this number, and keeps what it says. After a refusal or want of memory nothing is said
     /// of what is kept.
-    pub fn item(&mut self, alloc: Global, number: u64, item: &Item) -> Result<(), AnswerErr>
-        requires { FrontFits self.old.graph self.old.said item.now }
+    pub fn item(&mut self, alloc: Global, number: u64, item: Item) -> Result<(), AnswerErr>
+        requires { FrontFits self.old.graph self.old.said item }
         ensures graph { self.new.graph ≡ self.old.graph }
         ensures loops { self.new.loops ≡ self.old.loops }
-        ensures judged { Judged (draw_rules self.old.graph self.old.loops) self.old.said number item.now self.new.said result }
+        ensures judged { Judged (draw_rules self.old.graph self.old.loops) self.old.said number item self.new.said result }
     {
         match item {
-            Item::Graph { nodes, edges } => self.sizes(number, *nodes, *edges),
-            Item::Loops(loops) => self.same_loops(number, *loops),
-            Item::Edge(u, v) => self.edge(number, *u, *v),
+            Item::Graph { nodes, edges } => self.sizes(number, nodes, edges),
+            Item::Loops(loops) => self.same_loops(number, loops),
+            Item::Edge(u, v) => self.edge(number, u, v),
             Item::Bounds { lower, upper } => {
-                self.lower = *lower;
-                self.upper = *upper;
+                self.lower = lower;
+                self.upper = upper;
                 Ok(())
             }
-            Item::Along(list) => Ok(self.along(alloc, list)?),
-            Item::Turn(a, b) => Ok(self.turn(*a, *b)?),
+            Item::Along(list) => Ok(self.along(alloc, &list)?),
+            Item::Turn(a, b) => Ok(self.turn(a, b)?),
             Item::Drawn => self.drawn(alloc, number),
             _ => Ok(()),
         }
@@ -107,7 +107,7 @@ impl<'a> DrawingJudge<'a> {
 
     /// The drawing that the lines said.
     pub fn into_drawing(self) -> Drawing
-        ensures { result ≡ drawing_said self.said }
+        ensures { result ≡ drawing_said self.entry.said }
     {
         Drawing {
             orders: Orders::new(self.lists),

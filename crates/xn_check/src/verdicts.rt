@@ -62,8 +62,8 @@ pub fn draw_text(
     let mut number = 1;
     while let Some(line) = lines.next() {
         let item = forms.line(alloc, line.bytes, line.ended)?;
-        judge.item(alloc, number, &item)?;
-        number += 1;
+        judge.item(alloc, number, item)?;
+        number = number.saturating_add(1);
     }
     if forms.done() {
         Ok(judge.into_drawing())
