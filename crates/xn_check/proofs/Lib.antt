@@ -5,6 +5,9 @@ pub mod Ends
 pub mod Folds
 pub mod FrontPlaces
 pub mod Items
+pub mod Leaves
+pub mod Lines
+pub mod Parts
 pub mod Spelled
 pub mod Stages
 pub mod Taken

@@ -1,9 +1,11 @@
 pub mod Fitting
 pub mod FrontSaid
 pub mod Gives
+pub mod Judge
 pub mod Judging
 pub mod Laws
 pub mod Meaning
+pub mod Parts
 pub mod RowsSaid
 pub mod Said
 pub mod TreeSaid
