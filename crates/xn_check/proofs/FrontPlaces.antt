@@ -13,7 +13,7 @@ use Rattle.xn_proof.specs.declared.item.Item.TheVariants as item
 use Rattle.xn_proof.specs.declared.places.Block.{Block}
 use Rattle.xn_proof.specs.declared.places.Place.{Place}
 use Rattle.xn_proof.specs.declared.places.Place.TheVariants as place
-use Rattle.xn_check.specs.Fitting.{FrontFits, FrontStands}
+use Rattle.xn_check.specs.FrontFits.{FrontFits, FrontStands}
 use Rattle.xn_check.specs.FrontSaid.{FrontSaid, front_said}
 use Rattle.xn_check.specs.Meaning.{FrontAgrees}
 use Rattle.xn_check.proofs.Taken.{given, taken}

@@ -1,7 +1,7 @@
 // The lines of an answer up to `drawn`, judged one by one.
 ghost use Rattle.std.specs.Prelude.{◌≡◌, ◌<◌, IfOk, length};
 ghost use Rattle.xn_check.specs.FrontSaid.{drawing_said, front_said, no_front};
-ghost use Rattle.xn_check.specs.Fitting.{FrontFits};
+ghost use Rattle.xn_check.specs.FrontFits.{FrontFits};
 ghost use Rattle.xn_check.specs.Judging.{Judged};
 ghost use Rattle.xn_check.specs.Verdict.{draw_rules};
 

@@ -1,6 +1,6 @@
 // The lines of an answer, judged one by one.
 ghost use Rattle.std.specs.Prelude.{◌≡◌, IfOk};
-ghost use Rattle.xn_check.specs.Fitting.{FrontFits};
+ghost use Rattle.xn_check.specs.FrontFits.{FrontFits};
 ghost use Rattle.xn_check.specs.Judge.{said_of};
 ghost use Rattle.xn_check.specs.Judging.{Judged};
 ghost use Rattle.xn_check.specs.Parts.{MayCome};
