@@ -1,2 +1,4 @@
 pub mod Ends
+pub mod Leaves
+pub mod Parts
 pub mod Stages

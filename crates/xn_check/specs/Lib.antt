@@ -3,6 +3,7 @@ pub mod Gives
 pub mod Judging
 pub mod Laws
 pub mod Meaning
+pub mod Parts
 pub mod RowsSaid
 pub mod Said
 pub mod TreeSaid
