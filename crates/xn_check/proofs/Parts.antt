@@ -1,5 +1,5 @@
 -- The parts of a judge.
-use Rattle.std.proofs.Common.{◌≡◌, ℕ, ◌+◌, ◌==◌, true, List, [], ◌∷◌, ◌++◌, length, Result, Ok, Err, MatchResult, All, IfSome, Option, Some, refl, subst, sym, ap, ◌∙◌}
+use Rattle.std.proofs.Common.{◌≡◌, ℕ, ◌+◌, ◌==◌, true, List, [], ◌∷◌, ◌++◌, length, Result, MatchResult, All, IfSome, Option, Some, refl, subst, sym, ap, ◌∙◌}
 use Rattle.std.proofs.lemmas.List.Elements.{All-push}
 use Rattle.xn_model.specs.Graph.{Graph}
 use Rattle.xn_kinds.specs.Row.{RowHolds}
