@@ -1,7 +1,9 @@
+pub mod Checked
 pub mod DrawItems
 pub mod DrawLaw
 pub mod Drawn
 pub mod Ends
+pub mod Fitting
 pub mod Folds
 pub mod FrontPlaces
 pub mod Items

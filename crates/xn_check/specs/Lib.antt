@@ -1,3 +1,4 @@
+pub mod Fitting
 pub mod FrontFits
 pub mod FrontSaid
 pub mod Gives
