@@ -1,13 +1,12 @@
 -- Leaves of a tree: their parts, and what is judged of them.
-use Rattle.std.proofs.Common.{◌≡◌, ◌≢◌, ◌↔◌, IsTrue, Bool, true, false, ℕ, ◌+◌, ◌-◌, ◌<◌, ◌≤◌, ◌^◌, inl, inr, ℤ, ◌<ℤ◌, List, [], ◌∷◌, All, length, map, slice_index, slice_index_or, refl, sym, subst, arith}
+use Rattle.std.proofs.Common.{◌≡◌, ◌≢◌, ◌↔◌, IsTrue, Bool, true, false, ℕ, ◌+◌, ◌-◌, ◌<◌, ◌≤◌, inl, inr, ℤ, ◌<ℤ◌, List, [], ◌∷◌, All, length, map, slice_index, slice_index_or, refl, sym, subst, arith}
 use Rattle.std.specs.List.Sorted.{IsStrictlyIncreasing}
 use Rattle.std.proofs.lemmas.List.{get_or-map, length-map}
 use Rattle.std.proofs.lemmas.List.Elements.{All-map}
 use Rattle.std.proofs.lemmas.Map.Keys.{sorted_from_strictly_increasing}
 use Rattle.std.proofs.lemmas.Map.Views.{length-le_from_below}
-
 use Rattle.xn_model.specs.Graph.{Graph}
-use Rattle.xn_kinds.specs.Bound.{IsBound, PartsFit, row_at}
+use Rattle.xn_kinds.specs.Bound.{IsBound, row_at}
 use Rattle.xn_kinds.specs.Row.{RowHolds}
 use Rattle.xn_kinds.specs.State.{State}
 use Rattle.xn_kinds.specs.declared.flaws.FlawKind.TheVariants as kinds
@@ -59,7 +58,7 @@ pub few_parts : (rows : ℕ) (parts : List (ℕ × ℕ)) → Rise parts → All 
 few_parts rows parts rise below =
     let numbers = map (λ (p : ℕ × ℕ). p.0) parts in
     let few : length numbers ≤ rows =
-        length-le_from_below rows numbers (sorted_from_strictly_increasing numbers rise) (All-map (λ (x : ℕ). x < rows) (λ (p : ℕ × ℕ). p.0) parts below) in
+    length-le_from_below rows numbers (sorted_from_strictly_increasing numbers rise) (All-map (λ (x : ℕ). x < rows) (λ (p : ℕ × ℕ). p.0) parts below) in
     subst (λ n. n ≤ rows) (length_of parts) few
 
 -- and have rows of the graph

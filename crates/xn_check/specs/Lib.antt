@@ -1,3 +1,4 @@
+pub mod Fitting
 pub mod FrontSaid
 pub mod Gives
 pub mod Judging

@@ -110,7 +110,12 @@ impl<'a> RowPart<'a> {
     }
 
     /// The list of segments that is the evidence of the row that is begun, at a line with this number. The row has to hold.
-    pub fn extension(&mut self, alloc: Global, number: u64, list: Sequence<u32>) -> Result<(), AnswerErr>
+    pub fn extension(
+        &mut self,
+        alloc: Global,
+        number: u64,
+        list: Sequence<u32>,
+    ) -> Result<(), AnswerErr>
         requires room { HasRoom (length self.old.said.whole) }
         ensures graph { IfOk result (λ _. self.new.graph ≡ self.old.graph) }
         ensures said { IfOk result (λ _. self.new.said ≡ rows_said self.old.said (Item.Extension list)) }
