@@ -1,12 +1,12 @@
 -- Leaves of a tree: their parts, and what is judged of them.
-use Rattle.std.proofs.Common.{◌≡◌, ◌≢◌, ◌↔◌, IsTrue, Bool, true, false, ℕ, ◌+◌, ◌-◌, ◌<◌, ◌≤◌, ◌^◌, inl, inr, ℤ, ◌<ℤ◌, List, [], ◌∷◌, All, length, map, slice_index, slice_index_or, refl, sym, subst, arith}
+use Rattle.std.proofs.Common.{◌≡◌, ◌≢◌, ◌↔◌, IsTrue, Bool, true, false, ℕ, ◌+◌, ◌-◌, ◌<◌, ◌≤◌, inl, inr, ℤ, ◌<ℤ◌, List, [], ◌∷◌, All, length, map, slice_index, slice_index_or, refl, sym, subst, arith}
 use Rattle.std.specs.List.Sorted.{IsStrictlyIncreasing}
 use Rattle.std.proofs.lemmas.List.{get_or-map, length-map}
 use Rattle.std.proofs.lemmas.List.Elements.{All-map}
 use Rattle.std.proofs.lemmas.Map.Keys.{sorted_from_strictly_increasing}
 use Rattle.std.proofs.lemmas.Map.Views.{length-le_from_below}
 use Rattle.xn_model.specs.Graph.{Graph}
-use Rattle.xn_kinds.specs.Bound.{IsBound, PartsFit, row_at}
+use Rattle.xn_kinds.specs.Bound.{IsBound, row_at}
 use Rattle.xn_kinds.specs.Row.{RowHolds}
 use Rattle.xn_kinds.specs.State.{State}
 use Rattle.xn_kinds.specs.declared.flaws.FlawKind.TheVariants as kinds

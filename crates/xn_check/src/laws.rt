@@ -1,4 +1,5 @@
 //! Laws on the verdict. Each is the contract of a function whose body only names the law that it stands on.
+ghost use Rattle.xn_check.specs.Fitting.{FormsFitRows};
 ghost use Rattle.xn_check.specs.Laws.{AcceptedHasProof, AcceptedTextBounds, DrawnWhereSpelled};
 
 use xn_sound::laws::accepted_proofs;
@@ -19,4 +20,9 @@ pub fn accepted_bounds()
 /// with its upper bound of crossings.
 pub fn drawn_texts()
     ensures { DrawnWhereSpelled }
+{}
+
+/// What the forms of lines tell of the rows, at each place: as many are whole as are said, and the numbers of leaves are those of rows.
+pub fn forms_fit_rows()
+    ensures { FormsFitRows }
 {}

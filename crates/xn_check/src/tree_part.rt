@@ -79,11 +79,11 @@ impl TreePart {
         ensures { MatchResult result (λ _. pending_of self.now.walk ≡ [])
             (λ e. (pending_of self.now.walk ≢ []) × (e ≡ AnswerErr.Refused (record { line = number; kind = TreeShape self.now.nodes }))) }
     {
-        if self.walk.is_finished() {
-            Ok(())
-        } else {
-            Err(self.misshapen(number))
+        let finished = self.walk.is_finished();
+        if !finished {
+            return Err(self.misshapen(number));
         }
+        Ok(())
     }
 
     // A leaf in the first pending state.
