@@ -28,7 +28,7 @@ pub record Checked (g : Graph) (loops : ℕ) (text : List ℕ) (at : State) (kep
   pub numbered : number ≡ at.0
   pub leads : Leads (check_rules g loops) text at (said_of kept) left
 
-front_agrees : (g : Graph) (loops : ℕ) (s : Said) (x : Item) → Agrees g loops s x → FrontAgrees g loops s.front x
+pub front_agrees : (g : Graph) (loops : ℕ) (s : Said) (x : Item) → Agrees g loops s x → FrontAgrees g loops s.front x
 front_agrees g loops s (item.Header n) a = tt
 front_agrees g loops s (item.Graph n m) a = a
 front_agrees g loops s (item.Loops l) a = a

@@ -1,3 +1,5 @@
+pub mod CheckItems
+pub mod CheckLaw
 pub mod Checked
 pub mod DrawItems
 pub mod DrawLaw
@@ -10,6 +12,7 @@ pub mod Items
 pub mod Leaves
 pub mod Lines
 pub mod Parts
+pub mod RowItems
 pub mod Spelled
 pub mod Stages
 pub mod Taken
