@@ -1,5 +1,5 @@
 -- What the items of an answer have to mean: those up to `drawn`, those of rows, those of the tree.
-use Rattle.std.proofs.Common.{◌≡◌, ℕ, ◌+◌, List, [], ◌∷◌, ◌++◌, map, refl, sym, subst, ap, ◌∙◌}
+use Rattle.std.proofs.Common.{◌≡◌, ℕ, List, [], ◌∷◌, ◌++◌, map, refl, sym, subst, ap, ◌∙◌}
 use Rattle.std.specs.List.{flat_map}
 use Rattle.xn_model.specs.Graph.{Graph}
 use Rattle.xn_kinds.specs.State.{State}
@@ -13,10 +13,10 @@ use Rattle.xn_proof.specs.Spelling.{overs_of}
 use Rattle.xn_proof.specs.declared.item.Item.{Item}
 use Rattle.xn_proof.specs.declared.item.Item.TheVariants as item
 use Rattle.xn_rows.specs.Walk.{after}
-use Rattle.xn_check.specs.FrontSaid.{FrontSaid, front_said}
+use Rattle.xn_check.specs.FrontSaid.{front_said}
 use Rattle.xn_check.specs.Judging.{Rules}
 use Rattle.xn_check.specs.Meaning.{Agrees, FrontAgrees, KeepsFirst}
-use Rattle.xn_check.specs.RowsSaid.{RowsSaid, rows_said}
+use Rattle.xn_check.specs.RowsSaid.{rows_said}
 use Rattle.xn_check.specs.Said.{Said, said}
 use Rattle.xn_check.specs.Verdict.{check_rules, draw_rules}
 use Rattle.xn_check.proofs.Checked.{front_agrees}

@@ -1,13 +1,10 @@
 -- The verdict in the words of the answer.
-use Rattle.std.proofs.Common.{◌≡◌, ℕ, ◌^◌, ◌<◌, List, [], ◌∷◌, ◌++◌, length, map, Ok, refl, sym, subst, ap, ◌∙◌, append_assoc}
-use Rattle.std.specs.List.{All, flat_map}
+use Rattle.std.proofs.Common.{◌≡◌, ℕ, ◌^◌, ◌<◌, List, [], ◌∷◌, ◌++◌, length, map, Ok, sym, subst, ap, ◌∙◌, append_assoc}
+use Rattle.std.specs.List.{flat_map}
 use Rattle.xn_model.specs.Graph.{Graph}
-use Rattle.xn_kinds.specs.Row.{RowHolds}
-use Rattle.xn_kinds.specs.State.{empty_state}
-use Rattle.xn_kinds.specs.Tree.{Accepts, Proves}
+use Rattle.xn_kinds.specs.Tree.{Accepts}
 use Rattle.xn_kinds.specs.declared.answers.Answer.{Answer}
 use Rattle.xn_kinds.specs.declared.drawings.Drawing.{Drawing}
-use Rattle.xn_kinds.specs.declared.rows.Row.{Row}
 use Rattle.xn_proof.specs.Forms.{bounds_items, drawing_items, graph_items, items_of, row_items, rows_items, tree_items}
 use Rattle.xn_proof.specs.Spelling.{turns_of}
 use Rattle.xn_proof.specs.WellFormed.{WellFormed}
@@ -24,7 +21,7 @@ use Rattle.xn_check.proofs.DrawItems.{all_passed, proof_pass}
 use Rattle.xn_check.proofs.DrawLaw.{IsFor, after_drawing, all_agree, is_for, said_last}
 use Rattle.xn_check.proofs.Items.{AllAgree, agree_first, agree_join, agree_rest, agree_tail, all_said, said_join}
 use Rattle.xn_check.proofs.RowItems.{row_rules, rows_mean, whole_rows}
-use Rattle.xn_check.proofs.Spelled.{SaysAnswer, said_so, says}
+use Rattle.xn_check.proofs.Spelled.{said_so, says}
 
 regroup : (x y z w : List Item) (d : Item) → x ++ (y ++ (z ++ (d ∷ w))) ≡ (x ++ (y ++ (z ++ d ∷ []))) ++ w
 regroup x y z w d =

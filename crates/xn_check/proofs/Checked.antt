@@ -7,7 +7,6 @@ use Rattle.xn_proof.specs.declared.item.Item.{Item}
 use Rattle.xn_proof.specs.declared.item.Item.TheVariants as item
 use Rattle.xn_check.specs.Fitting.{RowsFit}
 use Rattle.xn_check.specs.FrontFits.{FrontFits, FrontStands}
-use Rattle.xn_check.specs.FrontSaid.{FrontSaid}
 use Rattle.xn_check.specs.Judge.{Kept, said_of}
 use Rattle.xn_check.specs.Judging.{Judged}
 use Rattle.xn_check.specs.Meaning.{Agrees, FrontAgrees}
