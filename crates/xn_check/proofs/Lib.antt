@@ -11,6 +11,7 @@ pub mod FrontPlaces
 pub mod Items
 pub mod Leaves
 pub mod Lines
+pub mod OneOutcome
 pub mod Parts
 pub mod RowItems
 pub mod Spelled

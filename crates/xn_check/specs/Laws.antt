@@ -1,11 +1,12 @@
 -- What texts are that the verdicts accept.
-use Rattle.std.specs.Prelude.{◌≡◌, ℕ, ◌^◌, ◌<◌, ◌↔◌, List, length, Ok}
+use Rattle.std.specs.Prelude.{◌≡◌, ℕ, ◌^◌, ◌<◌, ◌↔◌, List, length, Result, Ok}
 use Rattle.xn_model.specs.Drawing.{IsAtMost, IsListedDrawing, Least, order_of}
 use Rattle.xn_model.specs.Graph.{Graph, IsGraph}
 use Rattle.xn_model.specs.Orders.{crossing_count}
 use Rattle.xn_kinds.specs.Tree.{Accepts}
 use Rattle.xn_kinds.specs.declared.answers.Answer.{Answer}
 use Rattle.xn_kinds.specs.declared.drawings.Drawing.{Drawing}
+use Rattle.xn_kinds.specs.declared.flaws.Flaw.{Flaw}
 use Rattle.xn_kinds.specs.declared.rows.Row.{Row}
 use Rattle.xn_kinds.specs.declared.trees.Node.{Node}
 use Rattle.xn_proof.specs.Spelling.{text_of}
@@ -30,6 +31,14 @@ SpellsDrawing g loops text d = (a : Answer) × Spells g loops text a × (a.drawi
 abbrev pub SpellsProof : Graph → ℕ → List ℕ → ℕ → ℕ → Type 0
 SpellsProof g loops text lower upper =
     (a : Answer) × Spells g loops text a × (a.lower ≡ lower) × (a.upper ≡ upper) × Accepts g lower a.rows a.tree
+
+-- a text has at most one verdict
+abbrev pub OneVerdict : Type 0
+OneVerdict = (g : Graph) (loops : ℕ) (text : List ℕ) (o p : Result (ℕ × ℕ) Flaw) → Verdict g loops text o → Verdict g loops text p → o ≡ p
+
+-- and at most one draw verdict
+abbrev pub OneDrawVerdict : Type 0
+OneDrawVerdict = (g : Graph) (loops : ℕ) (text : List ℕ) (o p : Result Drawing Flaw) → DrawVerdict g loops text o → DrawVerdict g loops text p → o ≡ p
 
 -- the draw verdict gives a drawing exactly where the text spells an answer with this drawing
 abbrev pub DrawnWhereSpelled : Type 0
