@@ -1,5 +1,6 @@
 //! Laws on the verdict. Each is the contract of a function whose body only names the law that it stands on.
-ghost use Rattle.xn_check.specs.Laws.{AcceptedHasProof, AcceptedTextBounds};
+ghost use Rattle.xn_check.specs.Fitting.{FormsFitRows};
+ghost use Rattle.xn_check.specs.Laws.{AcceptedHasProof, AcceptedTextBounds, AcceptedWhereSpelled, DrawnWhereSpelled, OneDrawVerdict, OneVerdict};
 
 use xn_sound::laws::accepted_proofs;
 
@@ -14,3 +15,26 @@ pub fn accepted_bounds()
 {
     accepted_proofs();
 }
+
+/// A text has at most one verdict, and at most one draw verdict: so what the calls answer is the only one, but for want of memory.
+pub fn one_outcome()
+    ensures verdict { OneVerdict }
+    ensures draw { OneDrawVerdict }
+{}
+
+/// A text is accepted with its bounds exactly where it is the one spelling of an answer for the graph that has these bounds, a drawing
+/// with `upper` crossings, rows that hold and a tree that proves `lower`.
+pub fn accepted_where_spelled()
+    ensures { AcceptedWhereSpelled }
+{}
+
+/// The drawing of a text is accepted exactly where the text is the one spelling of an answer for the graph that has this drawing,
+/// with its upper bound of crossings.
+pub fn drawn_texts()
+    ensures { DrawnWhereSpelled }
+{}
+
+/// What the forms of lines tell of the rows, at each place: as many are whole as are said, and the numbers of leaves are those of rows.
+pub fn forms_fit_rows()
+    ensures { FormsFitRows }
+{}

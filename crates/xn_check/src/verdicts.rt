@@ -1,0 +1,88 @@
+// The verdict on a text, line by line.
+ghost use Rattle.xn_check.specs.Gives.{GivesDrawing, GivesVerdict};
+ghost use Rattle.xn_proof.specs.Spelling.{text_of};
+ghost use Rattle.xn_proof.specs.WellFormed.{WellFormed};
+
+use crate::front::DrawingJudge;
+use crate::judge::Judge;
+use crate::refusals::refused;
+use std::alloc::Global;
+use xn_graph::Graph;
+use xn_kinds::{Answer, Drawing, FlawKind};
+use xn_proof::{AnswerErr, Forms, write_answer};
+use xn_text::Lines;
+
+/// The bounds of an answer that is accepted.
+#[derive(Clone, Copy, Debug, PartialEq, Eq)]
+pub struct Accepted {
+    /// Every drawing has at least so many crossings.
+    pub lower: u32,
+    /// The drawing of the answer has so many.
+    pub upper: u32,
+}
+
+/// Whether a text is an answer for the graph, with so many loops left aside, whose drawing and proof are right: its bounds, or
+/// the first line whose rule fails. The law `accepted_bounds` says what the bounds show.
+pub fn check_text(
+    alloc: Global,
+    graph: &Graph,
+    loops: u64,
+    text: &[u8],
+) -> Result<Accepted, AnswerErr>
+    ensures { GivesVerdict graph.now loops text.now result }
+{
+    let mut lines = Lines::new(text);
+    let mut forms = Forms::new();
+    let mut judge = Judge::new(alloc, graph, loops)?;
+    let mut number = 1;
+    while let Some(line) = lines.next() {
+        let item = forms.line(alloc, line.bytes, line.ended)?;
+        judge.item(alloc, number, item)?;
+        number = number.saturating_add(1);
+    }
+    if forms.done() {
+        Ok(judge.accepted())
+    } else {
+        Err(refused(number, FlawKind::Syntax))
+    }
+}
+
+/// The same for an answer, by its spelling.
+pub fn check(
+    alloc: Global,
+    graph: &Graph,
+    loops: u64,
+    answer: &Answer,
+) -> Result<Accepted, AnswerErr>
+    requires { WellFormed answer.now }
+    ensures { GivesVerdict graph.now loops (text_of answer.now) result }
+{
+    let text = write_answer(alloc, answer)?;
+    check_text(alloc, graph, loops, &text)
+}
+
+/// The drawing of a text that is an answer for the graph, with so many loops left aside, or the first line whose rule fails.
+/// The drawing is judged; the rows and the tree keep their forms, and whether they prove anything isn't judged.
+pub fn draw_text(
+    alloc: Global,
+    graph: &Graph,
+    loops: u64,
+    text: &[u8],
+) -> Result<Drawing, AnswerErr>
+    ensures { GivesDrawing graph.now loops text.now result }
+{
+    let mut lines = Lines::new(text);
+    let mut forms = Forms::new();
+    let mut judge = DrawingJudge::new(alloc, graph, loops);
+    let mut number = 1;
+    while let Some(line) = lines.next() {
+        let item = forms.line(alloc, line.bytes, line.ended)?;
+        judge.item(alloc, number, item)?;
+        number = number.saturating_add(1);
+    }
+    if forms.done() {
+        Ok(judge.into_drawing())
+    } else {
+        Err(refused(number, FlawKind::Syntax))
+    }
+}
