@@ -8,6 +8,7 @@ pub mod Ends
 pub mod Fitting
 pub mod Folds
 pub mod FrontPlaces
+pub mod ItemKinds
 pub mod Items
 pub mod Leaves
 pub mod Lines

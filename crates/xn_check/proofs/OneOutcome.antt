@@ -1,10 +1,10 @@
 -- A text has at most one outcome.
-use Rattle.std.proofs.Common.{◌≡◌, ℕ, inl, inr, Bool, true, false, List, [], ◌∷◌, Result, Ok, Err, refl, sym, subst, ap, ◌∙◌, arith}
+use Rattle.std.proofs.Common.{◌≡◌, ℕ, inl, inr, Bool, true, false, List, [], ◌∷◌, Result, Ok, Err, sym, subst, ap, ◌∙◌, arith}
 use Rattle.std.proofs.lemmas.Int.{ints}
 use Rattle.std.specs.Prelude.{IfSome, Option, Some, None, ℤ, ◌≤ℤ◌, ◌<ℤ◌}
 use Rattle.xn_draw.proofs.Excluded.{no_flaw, one_flaw}
 use Rattle.xn_model.specs.Graph.{Graph}
-use Rattle.xn_kinds.specs.Bound.{IsBound, leaf_value}
+use Rattle.xn_kinds.specs.Bound.{IsBound}
 use Rattle.xn_kinds.specs.Row.{RowHolds}
 use Rattle.xn_kinds.specs.State.{State}
 use Rattle.xn_kinds.specs.declared.flaws.DrawFlaw.{DrawFlaw}
@@ -23,7 +23,7 @@ use Rattle.xn_rows.proofs.Excluded.{no_row_flaw, one_row_flaw}
 use Rattle.xn_check.specs.FrontSaid.{FrontSaid}
 use Rattle.xn_check.specs.Judging.{AtEnd, Judges, OnLine, Rules}
 use Rattle.xn_check.specs.Laws.{OneDrawVerdict, OneVerdict}
-use Rattle.xn_check.specs.Meaning.{Agrees, DrawnFails, Fails, FrontAgrees, FrontFails, KeepsFirst, NodeFails, PathFails, RowFails, StepFails, crossings_said, need_of}
+use Rattle.xn_check.specs.Meaning.{Agrees, DrawnFails, Fails, FrontAgrees, FrontFails, KeepsFirst, NodeFails, PathFails, RowFails, StepFails, need_of}
 use Rattle.xn_check.specs.RowsSaid.{row_by_list, row_by_path}
 use Rattle.xn_check.specs.Said.{Said}
 use Rattle.xn_check.specs.Verdict.{check_rules, draw_rules}
