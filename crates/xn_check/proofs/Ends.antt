@@ -8,7 +8,6 @@ use Rattle.xn_kinds.specs.Row.{RowHolds}
 use Rattle.xn_kinds.specs.declared.flaws.Flaw.{Flaw}
 use Rattle.xn_text.specs.Pieces.{words_of}
 use Rattle.xn_proof.specs.Forms.{Line, State, is_end, next_at, rule_at, start_state, text_lines, words_at}
-use Rattle.xn_proof.specs.Fronts.{next_of}
 use Rattle.xn_proof.proofs.Steps.{bind_ok}
 use Rattle.xn_proof.specs.declared.item.Item.{Item}
 use Rattle.xn_proof.specs.declared.places.Place.{Place}
@@ -17,7 +16,8 @@ use Rattle.xn_sound.specs.Laws.{AcceptedProofsBound}
 use Rattle.xn_check.specs.Laws.{AcceptedHasProof, AcceptedTextBounds, HasProofOf}
 use Rattle.xn_check.specs.Meaning.{Agrees}
 use Rattle.xn_check.specs.Said.{Said, nothing_said, said}
-use Rattle.xn_check.specs.Verdict.{AtEnd, Judges, OnLine, Outcome}
+use Rattle.xn_check.specs.Judging.{AtEnd, Judges, OnLine}
+use Rattle.xn_check.specs.Verdict.{check_rules}
 use Rattle.xn_check.proofs.Stages.{Stage, step}
 
 -- ---- the end
@@ -25,8 +25,8 @@ use Rattle.xn_check.proofs.Stages.{Stage, step}
 ok_is : {A E : Type 0} (x y : A) → ◌≡◌ {A = Result A E} (Ok x) (Ok y) → x ≡ y
 ok_is x y e = cc
 
-module _ (g : Graph) (number : ℕ) (s : Said) (v : ℕ × ℕ) where
-  at_end : (p : Place) → AtEnd (is_end p) number s (Ok v) → Stage g p s → HasProofOf g v.0 v.1
+module _ (g : Graph) (loops number : ℕ) (s : Said) (v : ℕ × ℕ) where
+  at_end : (p : Place) → AtEnd (check_rules g loops) (is_end p) number s (Ok v) → Stage g p s → HasProofOf g v.0 v.1
   at_end place.Header e known = absurd cc
   at_end place.Graph e known = absurd cc
   at_end (place.Loops nodes m) e known = absurd cc
@@ -44,12 +44,12 @@ module _ (g : Graph) (number : ℕ) (s : Said) (v : ℕ × ℕ) where
   at_end (place.Tree m rows) e known = absurd cc
   at_end (place.Node m rows) e known = absurd cc
   at_end place.Nothing e known =
-      subst (λ (w : ℕ × ℕ). HasProofOf g w.0 w.1) (sym (ok_is v (s.lower, s.upper) e)) (record {
-        lists = s.lists;
-        next = next_of s.turns;
+      subst (λ (w : ℕ × ℕ). HasProofOf g w.0 w.1) (sym (ok_is v (s.front.lower, s.front.upper) e)) (record {
+        lists = s.front.lists;
+        next = s.front.next;
         drawing = known.1.drawing;
         crossings = known.1.crossings;
-        rows = s.rows;
+        rows = s.rows.whole;
         tree = known.0.tree;
         accepted = record { rows_hold = known.0.rows_hold; tree = known.0.proves };
       })
@@ -57,7 +57,7 @@ module _ (g : Graph) (number : ℕ) (s : Said) (v : ℕ × ℕ) where
 -- ---- lines
 
 on_line : (g : Graph) (loops : ℕ) (s : Said) (number : ℕ) (r : Result (Item × State) Flaw) (Rest : State → Said → Type 0) (v : ℕ × ℕ) (Goal : Type 0) →
-    OnLine g loops s number r Rest (Ok v) → ((next : Item × State) → r ≡ Ok next → Agrees g loops s next.0 → Rest next.1 (said s next.0) → Goal) → Goal
+    OnLine (check_rules g loops) s number r Rest (Ok v) → ((next : Item × State) → r ≡ Ok next → Agrees g loops s next.0 → Rest next.1 (said s next.0) → Goal) → Goal
 on_line g loops s number (Err flaw) Rest v Goal e go = absurd cc
 on_line g loops s number (Ok next) Rest v Goal e go = elim e [
   | inl both ↦ go next refl both.0 both.1
@@ -76,8 +76,8 @@ taken at line next e =
     tests (is_end at.1) line.1 _ _ _ (next.0, next.1.1)
     (first.1 ∙ ap (λ (n : Item × State). Ok (n.0, n.1.1)) (ok_is _ next first.2))
 
-judged : (g : Graph) (loops : ℕ) (lines : List Line) (at : State) (s : Said) (v : ℕ × ℕ) → Judges g loops at s lines (Ok v) → Stage g at.1 s → HasProofOf g v.0 v.1
-judged g loops [] at s v j known = at_end g at.0 s v at.1 j known
+judged : (g : Graph) (loops : ℕ) (lines : List Line) (at : State) (s : Said) (v : ℕ × ℕ) → Judges (check_rules g loops) at s lines (Ok v) → Stage g at.1 s → HasProofOf g v.0 v.1
+judged g loops [] at s v j known = at_end g loops at.0 s v at.1 j known
 judged g loops (line ∷ lines) at s v j known =
     on_line g loops s at.0 (next_at at line) _ v (HasProofOf g v.0 v.1) j (λ next is agrees rest.
     judged g loops lines next.1 (said s next.0) v rest (step g loops s at.1 at.0 (words_of line.0) (next.0, next.1.1) (taken at line next is) known agrees))

@@ -13,7 +13,6 @@ use Rattle.xn_kinds.specs.declared.flaws.Flaw.{Flaw}
 use Rattle.xn_kinds.specs.declared.rows.Row.{Row}
 use Rattle.xn_kinds.specs.declared.trees.Node.{Node}
 use Rattle.xn_proof.specs.Forms.{alongs_from, edges_from, node_item, overs_from, paths_from, rows_from, start_item, start_paths, turns_from, words_at}
-use Rattle.xn_proof.specs.Fronts.{next_of}
 use Rattle.xn_proof.specs.Reading.{◌>>=◌}
 use Rattle.xn_proof.specs.declared.evidence.Start.{Start}
 use Rattle.xn_proof.specs.declared.evidence.Start.TheVariants as start
@@ -24,7 +23,8 @@ use Rattle.xn_proof.specs.declared.places.Place.{Place}
 use Rattle.xn_proof.specs.declared.places.Place.TheVariants as place
 use Rattle.xn_rows.specs.Walk.{after}
 use Rattle.xn_check.specs.Meaning.{Agrees, KeepsFirst}
-use Rattle.xn_check.specs.Said.{Said, row_by_list, row_by_path, said, with_row}
+use Rattle.xn_check.specs.RowsSaid.{RowsSaid, row_by_list, row_by_path, with_row}
+use Rattle.xn_check.specs.Said.{Said, said}
 
 -- ---- the stages
 
@@ -34,8 +34,8 @@ pub record Fresh (g : Graph) (rows : List Row) (pending : List State) : Type 0 w
   pub start : pending ≡ empty_state ∷ []
 
 -- there is a drawing with so many crossings
-pub record Drawn (g : Graph) (lists : List (List ℕ)) (turns : List (ℕ × ℕ)) (upper : ℕ) : Type 0 where
-  pub drawing : IsListedDrawing g lists (next_of turns)
+pub record Drawn (g : Graph) (lists : List (List ℕ)) (next : List ℕ) (upper : ℕ) : Type 0 where
+  pub drawing : IsListedDrawing g lists next
   pub crossings : upper ≡ crossing_count g (order_of g lists)
 
 -- nodes that end a proof of the pending states end a tree
@@ -55,7 +55,7 @@ pub record Grown (g : Graph) (k : ℕ) (rows : List Row) : Type 0 where
 
 -- between the drawing and the tree
 abbrev pub Between : Graph → Said → Type 0
-Between g s = Fresh g s.rows s.pending × Drawn g s.lists s.turns s.upper
+Between g s = Fresh g s.rows.whole s.tree.pending × Drawn g s.front.lists s.front.next s.front.upper
 
 -- what is known where the next line has a place
 abbrev pub Stage : Graph → Place → Said → Type 0
@@ -65,22 +65,22 @@ Stage g (place.Over b more) s = Between g s
 Stage g (place.Evidence b) s = Between g s
 Stage g (place.Path b more) s = Between g s
 Stage g (place.Tree m rows) s = Between g s
-Stage g (place.Node m rows) s = Growing g s.lower s.rows s.pending × Drawn g s.lists s.turns s.upper
-Stage g place.Nothing s = Grown g s.lower s.rows × Drawn g s.lists s.turns s.upper
-Stage g p s = Fresh g s.rows s.pending
+Stage g (place.Node m rows) s = Growing g s.front.lower s.rows.whole s.tree.pending × Drawn g s.front.lists s.front.next s.front.upper
+Stage g place.Nothing s = Grown g s.front.lower s.rows.whole × Drawn g s.front.lists s.front.next s.front.upper
+Stage g p s = Fresh g s.rows.whole s.tree.pending
 
 -- ---- the places of lines that stand several times
 
 module _ (g : Graph) (s : Said) where
-  edges_stage : (nodes e count : ℕ) → Fresh g s.rows s.pending → Stage g (edges_from nodes e count) s
+  edges_stage : (nodes e count : ℕ) → Fresh g s.rows.whole s.tree.pending → Stage g (edges_from nodes e count) s
   edges_stage nodes e zero known = known
   edges_stage nodes e (suc more) known = known
 
-  turns_stage : (m count : ℕ) → Fresh g s.rows s.pending → Stage g (turns_from m count) s
+  turns_stage : (m count : ℕ) → Fresh g s.rows.whole s.tree.pending → Stage g (turns_from m count) s
   turns_stage m zero known = known
   turns_stage m (suc more) known = known
 
-  alongs_stage : (m segments count : ℕ) → Fresh g s.rows s.pending → Stage g (alongs_from m segments count) s
+  alongs_stage : (m segments count : ℕ) → Fresh g s.rows.whole s.tree.pending → Stage g (alongs_from m segments count) s
   alongs_stage m segments zero known = turns_stage m segments known
   alongs_stage m segments (suc more) known = known
 
@@ -98,10 +98,11 @@ module _ (g : Graph) (s : Said) where
 
 -- ---- rows and nodes
 
-one_row : (g : Graph) (o : Option Row) (s : Said) → IfSome o (RowHolds g) → Between g s → Between g (with_row o s)
-one_row g None s holds known = known
-one_row g (Some row) s holds known =
-    (record { rows_hold = All-push (RowHolds g) s.rows row known.0.rows_hold holds; start = known.0.start }, known.1)
+one_row : (g : Graph) (o : Option Row) (s : RowsSaid) (pending : List State) → IfSome o (RowHolds g) → Fresh g s.whole pending →
+    Fresh g (with_row o s).whole pending
+one_row g None s pending holds known = known
+one_row g (Some row) s pending holds known =
+    record { rows_hold = All-push (RowHolds g) s.whole row known.rows_hold holds; start = known.start }
 
 grow : (g : Graph) (k : ℕ) (rows : List Row) (pending : List State) (node : Node) (tree : List Node) → LeadsTo g k rows pending tree →
     KeepsFirst g k rows pending node → LeadsTo g k rows (after pending node) (tree ++ node ∷ [])
@@ -125,14 +126,14 @@ module _ (g : Graph) (loops : ℕ) (s : Said) where
   evidence_next b (start.ThreeThree branch) known = λ agrees. known
   evidence_next b (start.Extension list) known = λ agrees.
       let t = said s (item.Extension list) in
-      paths_stage g t b 0 (one_row g (Some (row_by_list s list)) s agrees known)
+      paths_stage g t b 0 (one_row g (Some (row_by_list s.rows list)) s.rows s.tree.pending agrees known.0, known.1)
 
-  node_next : (m rows : ℕ) (o : Option Node) → Growing g s.lower s.rows s.pending × Drawn g s.lists s.turns s.upper → Next (node_item m rows o)
+  node_next : (m rows : ℕ) (o : Option Node) → Growing g s.front.lower s.rows.whole s.tree.pending × Drawn g s.front.lists s.front.next s.front.upper → Next (node_item m rows o)
   node_next m rows (Some node) known = λ agrees. (
     record {
       rows_hold = known.0.rows_hold;
       tree = known.0.tree ++ node ∷ [];
-      leads = grow g s.lower s.rows s.pending node known.0.tree known.0.leads agrees;
+      leads = grow g s.front.lower s.rows.whole s.tree.pending node known.0.tree known.0.leads agrees;
     },
     known.1,
   )
@@ -140,7 +141,7 @@ module _ (g : Graph) (loops : ℕ) (s : Said) where
     record {
       rows_hold = known.0.rows_hold;
       tree = known.0.tree ++ [];
-      proves = known.0.leads [] (subst (λ (p : List State). Finishes (Keeps g s.lower s.rows) children p []) (sym agrees) tt);
+      proves = known.0.leads [] (subst (λ (p : List State). Finishes (Keeps g s.front.lower s.rows.whole) children p []) (sym agrees) tt);
     },
     known.1,
   )
@@ -167,14 +168,15 @@ module _ (g : Graph) (loops : ℕ) (s : Said) where
   step (place.Path b more) i words y e known =
       let r = given _ _ y e in
       subst Next r.1 (λ agrees.
-      paths_stage g (said s (item.Path r.0)) b more (one_row g (row_by_path s r.0) (record s { paths = s.paths ++ r.0 ∷ [] }) agrees known))
+      let longer = record s.rows { paths = s.rows.paths ++ r.0 ∷ [] } in
+      paths_stage g (said s (item.Path r.0)) b more (one_row g (row_by_path s.rows r.0) longer s.tree.pending agrees known.0, known.1))
   step (place.Tree m rows) i words y e known =
       let r = given _ _ y e in
       subst Next r.1 (λ agrees. (
         record {
           rows_hold = known.0.rows_hold;
           tree = [];
-          leads = λ more ends. subst (λ (p : List State). Finishes (Keeps g s.lower s.rows) children p more) known.0.start ends;
+          leads = λ more ends. subst (λ (p : List State). Finishes (Keeps g s.front.lower s.rows.whole) children p more) known.0.start ends;
         },
         known.1,
       ))

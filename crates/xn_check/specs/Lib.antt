@@ -1,4 +1,9 @@
+pub mod FrontSaid
+pub mod Gives
+pub mod Judging
 pub mod Laws
 pub mod Meaning
+pub mod RowsSaid
 pub mod Said
+pub mod TreeSaid
 pub mod Verdict

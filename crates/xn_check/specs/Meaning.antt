@@ -16,22 +16,33 @@ use Rattle.xn_kinds.specs.declared.rows.Row.{Row}
 use Rattle.xn_kinds.specs.declared.trees.Node.{Node}
 use Rattle.xn_kinds.specs.declared.trees.Node.TheVariants.{Pair, Place, Leaf}
 use Rattle.xn_draw.specs.Flaws.{IsFlaw}
-use Rattle.xn_proof.specs.Fronts.{next_of}
 use Rattle.xn_proof.specs.declared.item.Item.{Item}
 use Rattle.xn_proof.specs.declared.item.Item.TheVariants as item
 use Rattle.xn_rows.specs.Holding.{IsRowFlaw}
 use Rattle.xn_rows.specs.Walk.{Fits}
-use Rattle.xn_check.specs.Said.{Said, row_by_list, row_by_path}
+use Rattle.xn_check.specs.FrontSaid.{FrontSaid}
+use Rattle.xn_check.specs.RowsSaid.{row_by_list, row_by_path}
+use Rattle.xn_check.specs.Said.{Said}
 
--- ---- what has to be
+-- ---- what has to be: lines up to `drawn`
 
 -- the lists and turns are a drawing
-abbrev pub HasDrawing : Graph → Said → Type 0
-HasDrawing g s = IsListedDrawing g s.lists (next_of s.turns)
+abbrev pub HasDrawing : Graph → FrontSaid → Type 0
+HasDrawing g f = IsListedDrawing g f.lists f.next
 
 -- its number of crossings
-abbrev pub crossings_said : Graph → Said → ℕ
-crossings_said g s = crossing_count g (order_of g s.lists)
+abbrev pub crossings_said : Graph → FrontSaid → ℕ
+crossings_said g f = crossing_count g (order_of g f.lists)
+
+-- the line means what it must; a later line may mean anything
+abbrev pub FrontAgrees : Graph → ℕ → FrontSaid → Item → Type 0
+FrontAgrees g loops f (item.Graph nodes edges) = (nodes ≡ g.nodes) × (edges ≡ length g.ends)
+FrontAgrees g loops f (item.Loops l) = l ≡ loops
+FrontAgrees g loops f (item.Edge u v) = (u, v) ≡ ends_at g.ends f.edges
+FrontAgrees g loops f item.Drawn = HasDrawing g f × (f.upper ≡ crossings_said g f)
+FrontAgrees g loops f line = Unit {0}
+
+-- ---- what has to be: all lines
 
 -- the node keeps its rule in the first pending state, of which there is one
 abbrev pub KeepsFirst : Graph → ℕ → List Row → List State → Node → Type 0
@@ -40,62 +51,64 @@ KeepsFirst g k rows (t ∷ pending) node = Keeps g k rows t node
 
 -- the line means what it must
 abbrev pub Agrees : Graph → ℕ → Said → Item → Type 0
-Agrees g loops s (item.Graph nodes edges) = (nodes ≡ g.nodes) × (edges ≡ length g.ends)
-Agrees g loops s (item.Loops l) = l ≡ loops
-Agrees g loops s (item.Edge u v) = (u, v) ≡ ends_at g.ends s.edges
-Agrees g loops s item.Drawn = HasDrawing g s × (s.upper ≡ crossings_said g s)
-Agrees g loops s (item.Path path) = IfSome (row_by_path s path) (RowHolds g)
-Agrees g loops s (item.Extension list) = RowHolds g (row_by_list s list)
-Agrees g loops s (item.Step node) = KeepsFirst g s.lower s.rows s.pending node
-Agrees g loops s item.End = s.pending ≡ []
-Agrees g loops s line = Unit {0}
+Agrees g loops s (item.Path path) = IfSome (row_by_path s.rows path) (RowHolds g)
+Agrees g loops s (item.Extension list) = RowHolds g (row_by_list s.rows list)
+Agrees g loops s (item.Step node) = KeepsFirst g s.front.lower s.rows.whole s.tree.pending node
+Agrees g loops s item.End = s.tree.pending ≡ []
+Agrees g loops s line = FrontAgrees g loops s.front line
 
--- ---- what else is wrong, first
+-- ---- what else is wrong, first: lines up to `drawn`
 
 -- it is no drawing, or one with another number of crossings than is said
-abbrev pub DrawnFails : Graph → Said → FlawKind → Type 0
-DrawnFails g s kind =
-    ((flaw : DrawFlaw) × IsFlaw g s.lists (next_of s.turns) flaw × (kind ≡ kinds.Draw flaw))
-    ⊎ (HasDrawing g s × (s.upper ≢ crossings_said g s) × (kind ≡ kinds.Count s.upper (crossings_said g s)))
+abbrev pub DrawnFails : Graph → FrontSaid → FlawKind → Type 0
+DrawnFails g f kind =
+    ((flaw : DrawFlaw) × IsFlaw g f.lists f.next flaw × (kind ≡ kinds.Draw flaw))
+    ⊎ (HasDrawing g f × (f.upper ≢ crossings_said g f) × (kind ≡ kinds.Count f.upper (crossings_said g f)))
 
--- the row with this number is none of the graph, or doesn't hold
+-- the line means something else, and this is wrong with it
+abbrev pub FrontFails : Graph → ℕ → FrontSaid → Item → FlawKind → Type 0
+FrontFails g loops f (item.Graph nodes edges) kind = (¬ ((nodes ≡ g.nodes) × (edges ≡ length g.ends))) × (kind ≡ kinds.SizeDiffers)
+FrontFails g loops f (item.Loops l) kind = (l ≢ loops) × (kind ≡ kinds.SizeDiffers)
+FrontFails g loops f (item.Edge u v) kind = ((u, v) ≢ ends_at g.ends f.edges) × (kind ≡ kinds.GraphDiffers f.edges)
+FrontFails g loops f item.Drawn kind = DrawnFails g f kind
+FrontFails g loops f line kind = ⊥
+
+-- ---- what else is wrong, first: all lines
+
+-- row number i is none of the graph, or doesn't hold
 abbrev pub RowFails : Graph → ℕ → Row → FlawKind → Type 0
 RowFails g i row kind = (flaw : RowFlaw) × IsRowFlaw g row flaw × (kind ≡ kinds.Row i flaw)
 
 -- the same, if a row is whole
-abbrev pub PathFails : Graph → Said → Option Row → FlawKind → Type 0
-PathFails g s None kind = ⊥
-PathFails g s (Some row) kind = RowFails g (length s.rows) row kind
+abbrev pub PathFails : Graph → ℕ → Option Row → FlawKind → Type 0
+PathFails g i None kind = ⊥
+PathFails g i (Some row) kind = RowFails g i row kind
 
 -- what the bound of a leaf has to pass
 abbrev pub need_of : ℕ → ℕ → ℤ
 need_of k d = pos d *ℤ (pos k -ℤ pos 1)
 
 -- a leaf whose bound doesn't pass it
-abbrev pub IsWeak : Graph → Said → State → ℕ → List (ℕ × ℕ) → FlawKind → Type 0
-IsWeak g s t d parts kind =
-    (b : ℤ) × IsBound g s.rows t d parts b × (¬ (need_of s.lower d <ℤ b)) × (kind ≡ kinds.Weak b (need_of s.lower d))
+abbrev pub IsWeak : Graph → ℕ → List Row → State → ℕ → List (ℕ × ℕ) → FlawKind → Type 0
+IsWeak g k rows t d parts kind =
+    (b : ℤ) × IsBound g rows t d parts b × (¬ (need_of k d <ℤ b)) × (kind ≡ kinds.Weak b (need_of k d))
 
--- a node that breaks its rule in a state: a leaf by its row numbers, and then by its bound
-abbrev pub NodeFails : Graph → Said → State → Node → FlawKind → Type 0
-NodeFails g s t (Leaf d parts) kind =
+-- node number n breaks its rule in a state: a leaf by its row numbers, and then by its bound
+abbrev pub NodeFails : Graph → ℕ → List Row → State → ℕ → Node → FlawKind → Type 0
+NodeFails g k rows t n (Leaf d parts) kind =
     let Rise = IsStrictlyIncreasing (map (λ p. p.0) parts) in
-    ((¬ Rise) × (kind ≡ kinds.TreeShape s.nodes)) ⊎ (Rise × IsWeak g s t d parts kind)
-NodeFails g s t node kind = (¬ (Fits g t node)) × (kind ≡ kinds.TreeShape s.nodes)
+    ((¬ Rise) × (kind ≡ kinds.TreeShape n)) ⊎ (Rise × IsWeak g k rows t d parts kind)
+NodeFails g k rows t n node kind = (¬ (Fits g t node)) × (kind ≡ kinds.TreeShape n)
 
 -- the same in the first pending state; there has to be one
-abbrev pub StepFails : Graph → Said → List State → Node → FlawKind → Type 0
-StepFails g s [] node kind = kind ≡ kinds.TreeShape s.nodes
-StepFails g s (t ∷ pending) node kind = NodeFails g s t node kind
+abbrev pub StepFails : Graph → ℕ → List Row → List State → ℕ → Node → FlawKind → Type 0
+StepFails g k rows [] n node kind = kind ≡ kinds.TreeShape n
+StepFails g k rows (t ∷ pending) n node kind = NodeFails g k rows t n node kind
 
 -- the line means something else, and this is wrong with it
 abbrev pub Fails : Graph → ℕ → Said → Item → FlawKind → Type 0
-Fails g loops s (item.Graph nodes edges) kind = (¬ ((nodes ≡ g.nodes) × (edges ≡ length g.ends))) × (kind ≡ kinds.SizeDiffers)
-Fails g loops s (item.Loops l) kind = (l ≢ loops) × (kind ≡ kinds.SizeDiffers)
-Fails g loops s (item.Edge u v) kind = ((u, v) ≢ ends_at g.ends s.edges) × (kind ≡ kinds.GraphDiffers s.edges)
-Fails g loops s item.Drawn kind = DrawnFails g s kind
-Fails g loops s (item.Path path) kind = PathFails g s (row_by_path s path) kind
-Fails g loops s (item.Extension list) kind = RowFails g (length s.rows) (row_by_list s list) kind
-Fails g loops s (item.Step node) kind = StepFails g s s.pending node kind
-Fails g loops s item.End kind = (s.pending ≢ []) × (kind ≡ kinds.TreeShape s.nodes)
-Fails g loops s line kind = ⊥
+Fails g loops s (item.Path path) kind = PathFails g (length s.rows.whole) (row_by_path s.rows path) kind
+Fails g loops s (item.Extension list) kind = RowFails g (length s.rows.whole) (row_by_list s.rows list) kind
+Fails g loops s (item.Step node) kind = StepFails g s.front.lower s.rows.whole s.tree.pending s.tree.nodes node kind
+Fails g loops s item.End kind = (s.tree.pending ≢ []) × (kind ≡ kinds.TreeShape s.tree.nodes)
+Fails g loops s line kind = FrontFails g loops s.front line kind

@@ -1,0 +1,40 @@
+-- Texts judged line by line, by whatever rules.
+use Rattle.std.specs.Prelude.{◌≡◌, ◌⊎◌, ℕ, Bool, true, false, List, [], ◌∷◌, Result, Ok, Err}
+use Rattle.xn_kinds.specs.declared.flaws.Flaw.{Flaw}
+use Rattle.xn_kinds.specs.declared.flaws.FlawKind.{FlawKind}
+use Rattle.xn_proof.specs.Forms.{Line, State, is_end, next_at, start_state, text_lines}
+use Rattle.xn_proof.specs.Reading.{syntax}
+use Rattle.xn_proof.specs.declared.item.Item.{Item}
+
+-- what lines have to mean beyond their form, by what those before them said
+pub record Rules (S A : Type 0) : Type 1 where
+  -- what is said before the first line, and with one line more
+  pub start : S
+  pub more : S → Item → S
+  -- the line means what it must, or means something else and this is wrong with it
+  pub agrees : S → Item → Type 0
+  pub fails : S → Item → FlawKind → Type 0
+  -- what comes of a text of which each line keeps its rules
+  pub answer : S → A
+
+-- no line is left: the text has come to the end of its answer, or the next line is missing
+abbrev pub AtEnd : {S A : Type 0} → Rules S A → Bool → ℕ → S → Result A Flaw → Type 0
+AtEnd rules true number s outcome = outcome ≡ Ok (rules.answer s)
+AtEnd rules false number s outcome = outcome ≡ Err (syntax number)
+
+-- a line with this number: it breaks its form, or it means what it must and the rest is judged, or it means something else
+abbrev pub OnLine : {S A : Type 0} → Rules S A → S → ℕ → Result (Item × State) Flaw → (State → S → Type 0) → Result A Flaw → Type 0
+OnLine rules s number (Err flaw) Rest outcome = outcome ≡ Err flaw
+OnLine rules s number (Ok next) Rest outcome =
+    (rules.agrees s next.0 × Rest next.1 (rules.more s next.0))
+    ⊎ ((kind : FlawKind) × rules.fails s next.0 kind × (outcome ≡ Err (record { line = number; kind = kind })))
+
+-- the outcome of the lines after those that led to a state and said this
+abbrev pub Judges : {S A : Type 0} → Rules S A → State → S → List Line → Result A Flaw → Type 0
+Judges rules at s [] outcome = AtEnd rules (is_end at.1) at.0 s outcome
+Judges rules at s (line ∷ lines) outcome =
+    OnLine rules s at.0 (next_at at line) (λ later said. Judges rules later said lines outcome) outcome
+
+-- the outcome of a text
+abbrev pub Outcome : {S A : Type 0} → Rules S A → List ℕ → Result A Flaw → Type 0
+Outcome rules text outcome = Judges rules start_state rules.start (text_lines text) outcome

@@ -1,0 +1,57 @@
+// The verdict on a text, line by line.
+ghost use Rattle.xn_check.specs.Gives.{GivesDrawing, GivesVerdict};
+ghost use Rattle.xn_proof.specs.Spelling.{text_of};
+ghost use Rattle.xn_proof.specs.WellFormed.{WellFormed};
+
+use std::alloc::Global;
+use xn_graph::Graph;
+use xn_kinds::{Answer, Drawing};
+use xn_proof::AnswerErr;
+
+/// The bounds of an answer that is accepted.
+#[derive(Clone, Copy, Debug, PartialEq, Eq)]
+pub struct Accepted {
+    /// Every drawing has at least so many crossings.
+    pub lower: u32,
+    /// The drawing of the answer has so many.
+    pub upper: u32,
+}
+
+/// Whether a text is an answer for the graph, with so many loops left aside, whose drawing and proof are right: its bounds, or
+/// the first line whose rule fails. The law `accepted_bounds` says what the bounds show.
+pub fn check_text(
+    alloc: Global,
+    graph: &Graph,
+    loops: u64,
+    text: &[u8],
+) -> Result<Accepted, AnswerErr>
+    ensures { GivesVerdict graph.now loops text.now result }
+{
+    Err(AnswerErr::Memory)
+}
+
+/// The same for an answer, by its spelling.
+pub fn check(
+    alloc: Global,
+    graph: &Graph,
+    loops: u64,
+    answer: &Answer,
+) -> Result<Accepted, AnswerErr>
+    requires { WellFormed answer.now }
+    ensures { GivesVerdict graph.now loops (text_of answer.now) result }
+{
+    Err(AnswerErr::Memory)
+}
+
+/// The drawing of a text that is an answer for the graph, with so many loops left aside, or the first line whose rule fails.
+/// The drawing is judged; the rows and the tree keep their forms, and whether they prove anything isn't judged.
+pub fn draw_text(
+    alloc: Global,
+    graph: &Graph,
+    loops: u64,
+    text: &[u8],
+) -> Result<Drawing, AnswerErr>
+    ensures { GivesDrawing graph.now loops text.now result }
+{
+    Err(AnswerErr::Memory)
+}
