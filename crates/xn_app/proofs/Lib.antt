@@ -1,1 +1,5 @@
+pub mod Ends
+pub mod Graphs
+pub mod Outcomes
+pub mod ReadFiles
 pub mod Verdicts

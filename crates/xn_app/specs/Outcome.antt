@@ -1,7 +1,6 @@
 -- What a command comes to: its end, and the bytes that belong to it.
 use Rattle.std.specs.Prelude.{◌≡◌, ℕ, List, [], Result, Ok, Err}
 use Rattle.std.specs.Map.{keys_of}
-use Rattle.xn_check.specs.Judged.{DrawVerdict}
 use Rattle.xn_check.specs.Verdict as checking
 use Rattle.xn_gml.specs.Meaning.{Found, graph_of_text}
 use Rattle.xn_gml.specs.declared.errors.GmlErr.{GmlErr}
@@ -52,7 +51,7 @@ abbrev pub Checked : List ℕ → Found → Outcome → Type 0
 Checked text found outcome = IsJudged (checking.Verdict found.graph found.loops text) accepted_line outcome
 
 abbrev pub Drawn : List ℕ → Found → Outcome → Type 0
-Drawn text found outcome = IsJudged (DrawVerdict found.graph found.loops text) (show_text found.graph (keys_of found.ids)) outcome
+Drawn text found outcome = IsJudged (checking.DrawVerdict found.graph found.loops text) (show_text found.graph (keys_of found.ids)) outcome
 
 -- what is asked comes to this, with these files
 abbrev pub ComesTo : Files → Request → Outcome → Type 0

@@ -23,6 +23,12 @@ IsSilent (Refused flaw) = ⊥
 IsSilent Write = ⊥
 IsSilent end = Unit {0}
 
+-- an end to which a verdict leads
+abbrev pub IsVerdictEnd : status.Status → Type 0
+IsVerdictEnd Done = Unit {0}
+IsVerdictEnd (Refused flaw) = Unit {0}
+IsVerdictEnd end = ⊥
+
 -- an end at which the command's last file was judged
 abbrev pub IsJudgedEnd : status.Status → Type 0
 IsJudgedEnd Done = Unit {0}

@@ -1,9 +1,10 @@
 // Reading the files of a command.
-ghost use Rattle.std.specs.Prelude.{◌≡◌, ◌≤◌, Some, IfOk, IfErr, IfSome};
+ghost use Rattle.std.specs.Prelude.{◌≡◌, ◌≤◌, Some, IfOk, IfErr, IfSome, length};
 ghost use Rattle.std.specs.String.{string_bytes};
 ghost use Rattle.xn_gml.specs.Meaning.{graph_of_text};
 ghost use Rattle.xn_gml.specs.ReadView.{found_in};
 ghost use Rattle.xn_io.specs.Input.{bytes_of, AreAllOf};
+ghost use Rattle.xn_app.specs.Status.{IsEarly};
 ghost use Rattle.xn_app.specs.Files.{AreRead, EndsReading, IsFine, IsOneBegun, Shows, StopsReading};
 
 use crate::status::Status;
@@ -15,11 +16,7 @@ use xn_io::{Input, read_all};
 const MAX_BYTES: u64 = 1 << 62;
 
 /// All the bytes of a file, or the end of the run without them.
-pub fn read_file<I: Input>(
-    alloc: Global,
-    input: &mut I,
-    name: String,
-) -> Result<Vec<u8>, Status>
+pub fn read_file<I: Input>(alloc: Global, input: &mut I, name: String) -> Result<Vec<u8>, Status>
     ensures all { IfOk result (λ text. AreAllOf (I.told input.old) (string_bytes name) text.items) }
     ensures fine { IfOk result (λ text. IsFine (I.failed input.new) (I.got input.new)) }
     ensures ends { IfErr result EndsReading }
@@ -42,7 +39,9 @@ pub fn read_both<I: Input>(
 ) -> Result<(Read, Vec<u8>), Status>
     ensures read { IfOk result (λ x. IfSome (I.told input.old)
         (λ files. AreRead files (string_bytes graph) (string_bytes answer) (found_in x.0) x.1.items)) }
+    ensures ids { IfOk result (λ x. length x.0.ids.entries ≡ x.0.graph.nodes) }
     ensures fine { IfOk result (λ x. IsFine (I.failed input.new) (I.got input.new)) }
+    ensures early { IfErr result IsEarly }
     ensures stops { IfErr result (StopsReading (I.told input.old) (string_bytes graph)) }
     ensures shows { IfErr result (Shows (I.told input.old) (I.name input.new) (I.faults input.old) (I.faults input.new)
         (I.failed input.new) (I.got input.new)) }

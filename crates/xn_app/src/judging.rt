@@ -1,5 +1,5 @@
 // What is said of an answer: an end, and the bytes that belong to it.
-ghost use Rattle.std.specs.Prelude.{◌≡◌, IfOk, IfErr};
+ghost use Rattle.std.specs.Prelude.{◌≡◌, IfOk, length};
 ghost use Rattle.xn_gml.specs.ReadView.{found_in};
 ghost use Rattle.xn_app.specs.Outcome.{Checked, Drawn, Examined};
 
@@ -7,6 +7,7 @@ use crate::examine::examine_text;
 use crate::output::{accepted_line, seen_line};
 use crate::status::Status;
 use std::alloc::{AllocError, Global};
+use xn_check::laws::draw_texts;
 use xn_check::{check_text, draw_text};
 use xn_gml::Read;
 use xn_proof::{AnswerErr, write_flaw};
@@ -24,11 +25,7 @@ pub fn examined(alloc: Global, text: &[u8]) -> Result<(Status, Vec<u8>), AllocEr
 }
 
 /// Tests everything that an answer says of the graph that was read.
-pub fn checked(
-    alloc: Global,
-    read: &Read,
-    text: &[u8],
-) -> Result<(Status, Vec<u8>), AllocError>
+pub fn checked(alloc: Global, read: &Read, text: &[u8]) -> Result<(Status, Vec<u8>), AllocError>
     ensures { IfOk result (λ x. Checked text.now (found_in read.now) (x.0, x.1.items)) }
 {
     match check_text(alloc, &read.graph, read.loops, text) {
@@ -40,8 +37,10 @@ pub fn checked(
 
 /// Shows the drawing of an answer for the graph that was read.
 pub fn drawn(alloc: Global, read: &Read, text: &[u8]) -> Result<(Status, Vec<u8>), AllocError>
+    requires { length read.now.ids.entries ≡ read.now.graph.nodes }
     ensures { IfOk result (λ x. Drawn text.now (found_in read.now) (x.0, x.1.items)) }
 {
+    draw_texts();
     match draw_text(alloc, &read.graph, read.loops, text) {
         Ok(drawing) => Ok((
             Status::Done,

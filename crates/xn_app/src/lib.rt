@@ -13,3 +13,5 @@ pub use status::{Limit, Status};
 pub use top_call::top;
 pub use xn_words::{Command, WordsErr, read_words};
 
+#[cfg(test)]
+mod tests;

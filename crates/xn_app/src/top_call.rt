@@ -7,7 +7,7 @@ ghost use Rattle.xn_words.specs.Request.{check, examine};
 ghost use Rattle.xn_app.specs.Ends.{Finishes, Quits, Ran, SaysBounds, SaysDrawing};
 ghost use Rattle.xn_app.specs.Files.{IsBegun, IsFine, Shows, answer_of};
 ghost use Rattle.xn_app.specs.Outcome.{ComesTo};
-ghost use Rattle.xn_app.specs.Status.{IsEarly, IsJudgedEnd, IsSilent, IsStarted};
+ghost use Rattle.xn_app.specs.Status.{IsEarly, IsJudgedEnd, IsSilent, IsStarted, IsVerdictEnd};
 
 use crate::files::{read_both, read_file};
 use crate::judging::{checked, drawn, examined};
@@ -33,7 +33,7 @@ pub fn top<I: Input, K: Sink>(alloc: Global, words: &[String], input: &mut I, ou
     // What Done means: an accepted answer, whatever it is, bounds the crossing number of its graph from both sides.
     ensures bounds { (graph answer : List ℕ) → words_request words.now ≡ Some (check graph answer) → result ≡ Status.Done
         → IfSome (I.told input.old)
-            (λ files. SaysBounds (bytes_of files graph) (bytes_of files answer) (K.taken out.old) (K.taken out.new)) }
+        (λ files. SaysBounds (bytes_of files graph) (bytes_of files answer) (K.taken out.old) (K.taken out.new)) }
     ensures drawing { (answer : List ℕ) → words_request words.now ≡ Some (examine answer) → result ≡ Status.Done
         → IfSome (I.told input.old) (λ files. SaysDrawing (bytes_of files answer) (K.taken out.old) (K.taken out.new)) }
 
@@ -57,10 +57,14 @@ pub fn top<I: Input, K: Sink>(alloc: Global, words: &[String], input: &mut I, ou
 }
 
 // The end that a command comes to and the bytes that belong to it, or an earlier end.
-fn work<I: Input>(alloc: Global, command: Command, input: &mut I) -> Result<(Status, Vec<u8>), Status>
+fn work<I: Input>(
+    alloc: Global,
+    command: Command,
+    input: &mut I,
+) -> Result<(Status, Vec<u8>), Status>
     ensures comes { IfOk result (λ x. IfSome (I.told input.old)
         (λ files. ComesTo files (request_of_command command) (x.0, x.1.items))) }
-    ensures judged { IfOk result (λ x. IsJudgedEnd x.0) }
+    ensures judged { IfOk result (λ x. IsVerdictEnd x.0) }
     ensures quits { IfErr result (λ end. IfSome (I.told input.old)
         (λ files. Quits (ComesTo files (request_of_command command)) end)) }
     ensures early { IfErr result IsEarly }
