@@ -1,0 +1,9 @@
+mod App
+mod Asked
+mod Parsed
+mod Refusals
+mod Budgets
+mod Rows
+mod Steps
+mod Walks
+mod Words

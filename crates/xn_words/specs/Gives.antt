@@ -18,8 +18,12 @@ request_of_command (Draw graph answer) = draw (string_bytes graph) (string_bytes
 abbrev pub words_request : List (String Global) → Option Request
 words_request words = request_of (map string_bytes words)
 
+-- the command does what is asked for, or nothing is, unless memory ran out
+abbrev pub GivesRequest : Option Request → Result out.Command WordsErr → Type 0
+GivesRequest asked (Ok command) = asked ≡ Some (request_of_command command)
+GivesRequest asked (Err Refused) = asked ≡ None
+GivesRequest asked (Err Memory) = Unit {0}
+
 -- the command does what the words ask for, or they ask for nothing, unless memory ran out
 abbrev pub GivesCommand : List (String Global) → Result out.Command WordsErr → Type 0
-GivesCommand words (Ok command) = words_request words ≡ Some (request_of_command command)
-GivesCommand words (Err Refused) = words_request words ≡ None
-GivesCommand words (Err Memory) = Unit {0}
+GivesCommand words result = GivesRequest (words_request words) result

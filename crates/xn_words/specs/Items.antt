@@ -31,6 +31,11 @@ last_items_of word =
     if bytes_eq word (codes "--") then []
     else if bytes_eq word (codes "--budget") then unvalued ∷ [] else item_of word ∷ []
 
+-- the words after the program's name
+abbrev pub after_name : List (List ℕ) → List (List ℕ)
+after_name [] = []
+after_name (program ∷ words) = words
+
 -- what the words after the program's name are: the first `--` that is no budget ends the options, and is no operand
 unfoldable pub items_of : List (List ℕ) → List Item
 items_of [] = []

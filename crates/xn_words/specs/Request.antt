@@ -2,7 +2,7 @@
 use Rattle.std.specs.Prelude.{ℕ, List, [], ◌∷◌, Option, Some, None, if◌then◌else◌, codes}
 use Rattle.std.specs.List.{list_all}
 use Rattle.std.specs.Str.{bytes_eq}
-use Rattle.xn_words.specs.Items.{Item, budgets_of, is_useful, items_of, operands_of}
+use Rattle.xn_words.specs.Items.{Item, after_name, budgets_of, is_useful, items_of, operands_of}
 
 -- what is asked for, with the names of the files
 pub data Request : Type 0 where
@@ -35,5 +35,4 @@ request_by items = if list_all is_useful items then asked_by (operands_of items)
 
 -- what a list of words asks for, of which the first is the program's name
 abbrev pub request_of : List (List ℕ) → Option Request
-request_of [] = None
-request_of (program ∷ words) = request_by (items_of words)
+request_of words = request_by (items_of (after_name words))

@@ -2,5 +2,9 @@
 #![tactic(auto)]
 
 mod command;
+pub mod laws;
+mod parse;
+#[cfg(test)]
+mod tests;
 
 pub use command::{Command, WordsErr, read_words};
