@@ -1,5 +1,5 @@
 -- The text that shows a drawing, line by line.
-use Rattle.std.specs.Prelude.{ℕ, ℤ, pos, suc, List, [], ◌∷◌, ◌++◌, length, map, nat_lt, replicate, slice_index_or, if◌then◌else◌, decimal, codes}
+use Rattle.std.specs.Prelude.{ℕ, ℤ, pos, suc, List, ◌++◌, length, map, nat_lt, replicate, slice_index_or, if◌then◌else◌, decimal, codes}
 use Rattle.std.specs.Fmt.{signed_decimal}
 use Rattle.std.specs.List.{flat_map, join_with_byte, range_with_len}
 use Rattle.xn_model.specs.Drawing.{order_of}
