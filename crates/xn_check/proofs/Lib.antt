@@ -1,2 +1,15 @@
+pub mod Checked
+pub mod DrawItems
+pub mod DrawLaw
+pub mod Drawn
 pub mod Ends
+pub mod Fitting
+pub mod Folds
+pub mod FrontPlaces
+pub mod Items
+pub mod Leaves
+pub mod Lines
+pub mod Parts
+pub mod Spelled
 pub mod Stages
+pub mod Taken

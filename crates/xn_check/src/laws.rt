@@ -1,5 +1,6 @@
 //! Laws on the verdict. Each is the contract of a function whose body only names the law that it stands on.
-ghost use Rattle.xn_check.specs.Laws.{AcceptedHasProof, AcceptedTextBounds};
+ghost use Rattle.xn_check.specs.Fitting.{FormsFitRows};
+ghost use Rattle.xn_check.specs.Laws.{AcceptedHasProof, AcceptedTextBounds, DrawnWhereSpelled};
 
 use xn_sound::laws::accepted_proofs;
 
@@ -14,3 +15,14 @@ pub fn accepted_bounds()
 {
     accepted_proofs();
 }
+
+/// The drawing of a text is accepted exactly where the text is the one spelling of an answer for the graph that has this drawing,
+/// with its upper bound of crossings.
+pub fn drawn_texts()
+    ensures { DrawnWhereSpelled }
+{}
+
+/// What the forms of lines tell of the rows, at each place: as many are whole as are said, and the numbers of leaves are those of rows.
+pub fn forms_fit_rows()
+    ensures { FormsFitRows }
+{}
