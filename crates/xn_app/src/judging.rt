@@ -7,7 +7,7 @@ use crate::examine::examine_text;
 use crate::output::{accepted_line, seen_line};
 use crate::status::Status;
 use std::alloc::{AllocError, Global};
-use xn_check::laws::draw_texts;
+use xn_check::laws::drawn_texts;
 use xn_check::{check_text, draw_text};
 use xn_gml::Read;
 use xn_proof::{AnswerErr, write_flaw};
@@ -40,7 +40,7 @@ pub fn drawn(alloc: Global, read: &Read, text: &[u8]) -> Result<(Status, Vec<u8>
     requires { length read.now.ids.entries ≡ read.now.graph.nodes }
     ensures { IfOk result (λ x. Drawn text.now (found_in read.now) (x.0, x.1.items)) }
 {
-    draw_texts();
+    drawn_texts();
     match draw_text(alloc, &read.graph, read.loops, text) {
         Ok(drawing) => Ok((
             Status::Done,
