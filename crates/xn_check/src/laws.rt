@@ -1,5 +1,5 @@
 //! Laws on the verdict. Each is the contract of a function whose body only names the law that it stands on.
-ghost use Rattle.xn_check.specs.Laws.{AcceptedHasProof, AcceptedTextBounds};
+ghost use Rattle.xn_check.specs.Laws.{AcceptedHasProof, AcceptedTextBounds, OneDrawVerdict};
 
 use xn_sound::laws::accepted_proofs;
 
@@ -13,4 +13,12 @@ pub fn accepted_bounds()
     ensures { AcceptedTextBounds }
 {
     accepted_proofs();
+}
+
+/// A text has one verdict of its drawing.
+pub fn one_draw_verdict()
+    ensures { OneDrawVerdict }
+{
+    xn_draw::laws::first_flaws();
+    xn_rows::laws::first_flaws();
 }
