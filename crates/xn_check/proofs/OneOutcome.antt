@@ -1,9 +1,7 @@
 -- Each verdict has one outcome.
-use Rattle.std.proofs.Common.{◌≡◌, ℕ, List, Result, Ok}
+use Rattle.std.proofs.Common.{ℕ}
 use Rattle.xn_model.specs.Graph.{Graph, IsGraph}
-use Rattle.xn_kinds.specs.declared.flaws.FlawKind.{FlawKind}
-use Rattle.xn_proof.specs.Forms.{Line, State, start_state, text_lines}
-use Rattle.xn_proof.specs.declared.item.Item.{Item}
+use Rattle.xn_proof.specs.Forms.{State, start_state, text_lines}
 use Rattle.xn_check.specs.FrontSaid.{FrontSaid, no_front}
 use Rattle.xn_check.specs.Laws.{OneDrawVerdict}
 use Rattle.xn_check.specs.Verdict.{draw_rules}

@@ -1,7 +1,7 @@
 -- A line has one thing wrong at most, and none where it means what it must.
-use Rattle.std.proofs.Common.{◌≡◌, ◌≢◌, ℕ, inl, inr, List, [], ◌∷◌, Option, Some, None, length, sym, subst, ap, ◌∙◌, arith}
+use Rattle.std.proofs.Common.{◌≡◌, ℕ, inl, inr, List, [], ◌∷◌, Option, Some, None, length, sym, subst, ap, ◌∙◌, arith}
 use Rattle.std.proofs.lemmas.Int.{ints}
-use Rattle.std.specs.Prelude.{ℤ, IfSome, ◌<ℤ◌, ◌↔◌}
+use Rattle.std.specs.Prelude.{ℤ, IfSome, ◌<ℤ◌}
 use Rattle.xn_model.specs.Graph.{Graph, IsGraph}
 use Rattle.xn_kinds.specs.Bound.{IsBound, IsStrong}
 use Rattle.xn_kinds.specs.Row.{RowHolds}
@@ -15,7 +15,7 @@ use Rattle.xn_kinds.specs.declared.trees.Node.TheVariants.{Pair, Place, Leaf}
 use Rattle.xn_draw.specs.Flaws.{DrawnWhereFlawless, OneFlaw}
 use Rattle.xn_proof.specs.declared.item.Item.{Item}
 use Rattle.xn_proof.specs.declared.item.Item.TheVariants as item
-use Rattle.xn_rows.specs.Holding.{HasSizes, IsRowFlaw}
+use Rattle.xn_rows.specs.Holding.{HasSizes}
 use Rattle.xn_rows.specs.RowLaws.{HoldsWhereFlawless, OneRowFlaw}
 use Rattle.xn_check.specs.FrontSaid.{FrontSaid}
 use Rattle.xn_check.specs.Meaning.{Agrees, DrawnFails, Fails, FrontAgrees, FrontFails, HasDrawing, IsWeak, KeepsFirst, NodeFails, PathFails, RowFails, StepFails, crossings_said, need_of}

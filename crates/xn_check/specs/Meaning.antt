@@ -14,7 +14,7 @@ use Rattle.xn_kinds.specs.declared.flaws.FlawKind.TheVariants as kinds
 use Rattle.xn_kinds.specs.declared.flaws.RowFlaw.{RowFlaw}
 use Rattle.xn_kinds.specs.declared.rows.Row.{Row}
 use Rattle.xn_kinds.specs.declared.trees.Node.{Node}
-use Rattle.xn_kinds.specs.declared.trees.Node.TheVariants.{Pair, Place, Leaf}
+use Rattle.xn_kinds.specs.declared.trees.Node.TheVariants.{Leaf}
 use Rattle.xn_draw.specs.Flaws.{IsFlaw}
 use Rattle.xn_proof.specs.declared.item.Item.{Item}
 use Rattle.xn_proof.specs.declared.item.Item.TheVariants as item
