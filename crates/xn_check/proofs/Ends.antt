@@ -7,8 +7,8 @@ use Rattle.xn_model.specs.Lists.{at}
 use Rattle.xn_kinds.specs.Row.{RowHolds}
 use Rattle.xn_kinds.specs.declared.flaws.Flaw.{Flaw}
 use Rattle.xn_text.specs.Pieces.{words_of}
-use Rattle.xn_proof.specs.Forms.{Line, State, is_end, next_at, rule_at, start_state, text_lines, words_at}
-use Rattle.xn_proof.proofs.Steps.{bind_ok}
+use Rattle.xn_proof.specs.Forms.{Line, State, is_end, next_at, start_state, text_lines}
+use Rattle.xn_proof.proofs.Steps.{ok_is}
 use Rattle.xn_proof.specs.declared.item.Item.{Item}
 use Rattle.xn_proof.specs.declared.places.Place.{Place}
 use Rattle.xn_proof.specs.declared.places.Place.TheVariants as place
@@ -19,11 +19,9 @@ use Rattle.xn_check.specs.Said.{Said, nothing_said, said}
 use Rattle.xn_check.specs.Judging.{AtEnd, Judges, OnLine}
 use Rattle.xn_check.specs.Verdict.{check_rules}
 use Rattle.xn_check.proofs.Stages.{Stage, step}
+use Rattle.xn_check.proofs.Taken.{taken}
 
 -- ---- the end
-
-ok_is : {A E : Type 0} (x y : A) → ◌≡◌ {A = Result A E} (Ok x) (Ok y) → x ≡ y
-ok_is x y e = cc
 
 module _ (g : Graph) (loops number : ℕ) (s : Said) (v : ℕ × ℕ) where
   at_end : (p : Place) → AtEnd (check_rules g loops) (is_end p) number s (Ok v) → Stage g p s → HasProofOf g v.0 v.1
@@ -63,18 +61,6 @@ on_line g loops s number (Ok next) Rest v Goal e go = elim e [
   | inl both ↦ go next refl both.0 both.1
   | inr fails ↦ absurd (let other = fails.2 in cc)
 ]
-
--- a line that keeps its rule isn't behind the end, and is ended
-tests : {A : Type 0} (b c : Bool) (d f : Flaw) (w : Result A Flaw) (x : A) → cond b (Err d) (cond c w (Err f)) ≡ Ok x → w ≡ Ok x
-tests true c d f w x e = absurd cc
-tests false true d f w x e = e
-tests false false d f w x e = absurd cc
-
-taken : (at : State) (line : Line) (next : Item × State) → next_at at line ≡ Ok next → words_at at.1 at.0 (words_of line.0) ≡ Ok (next.0, next.1.1)
-taken at line next e =
-    let first = bind_ok (rule_at at.1 at.0 line) _ next e in
-    tests (is_end at.1) line.1 _ _ _ (next.0, next.1.1)
-    (first.1 ∙ ap (λ (n : Item × State). Ok (n.0, n.1.1)) (ok_is _ next first.2))
 
 judged : (g : Graph) (loops : ℕ) (lines : List Line) (at : State) (s : Said) (v : ℕ × ℕ) → Judges (check_rules g loops) at s lines (Ok v) → Stage g at.1 s → HasProofOf g v.0 v.1
 judged g loops [] at s v j known = at_end g loops at.0 s v at.1 j known

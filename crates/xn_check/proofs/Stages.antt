@@ -1,5 +1,5 @@
 -- What is known of an answer at each place, where each line so far meant what it must.
-use Rattle.std.proofs.Common.{◌≡◌, ℕ, zero, suc, ◌+◌, Bool, List, [], ◌∷◌, ◌++◌, Result, Ok, Err, refl, sym, subst, ap, ◌∙◌}
+use Rattle.std.proofs.Common.{◌≡◌, ℕ, zero, suc, ◌+◌, List, [], ◌∷◌, ◌++◌, Result, Ok, Err, sym, subst}
 use Rattle.std.specs.Prelude.{All, IfSome, Option, Some, None}
 use Rattle.std.proofs.lemmas.List.{append_assoc}
 use Rattle.std.proofs.lemmas.List.Elements.{All-push}
@@ -13,7 +13,6 @@ use Rattle.xn_kinds.specs.declared.flaws.Flaw.{Flaw}
 use Rattle.xn_kinds.specs.declared.rows.Row.{Row}
 use Rattle.xn_kinds.specs.declared.trees.Node.{Node}
 use Rattle.xn_proof.specs.Forms.{alongs_from, edges_from, node_item, overs_from, paths_from, rows_from, start_item, start_paths, turns_from, words_at}
-use Rattle.xn_proof.specs.Reading.{◌>>=◌}
 use Rattle.xn_proof.specs.declared.evidence.Start.{Start}
 use Rattle.xn_proof.specs.declared.evidence.Start.TheVariants as start
 use Rattle.xn_proof.specs.declared.item.Item.{Item}
@@ -25,6 +24,7 @@ use Rattle.xn_rows.specs.Walk.{after}
 use Rattle.xn_check.specs.Meaning.{Agrees, KeepsFirst}
 use Rattle.xn_check.specs.RowsSaid.{RowsSaid, row_by_list, row_by_path, with_row}
 use Rattle.xn_check.specs.Said.{Said, said}
+use Rattle.xn_check.proofs.Taken.{given}
 
 -- ---- the stages
 
@@ -111,11 +111,6 @@ grow g k rows (t ∷ pending) node tree leads keeps =
     λ more ends. subst (Proves g k rows empty_state) (sym (append_assoc tree (node ∷ []) more)) (leads (node ∷ more) (keeps, ends))
 
 -- ---- one line more
-
--- what a line says, and the place after it
-given : {A : Type 0} (r : Result A Flaw) (f : A → Item × Place) (y : Item × Place) → (r >>= λ x. Ok (f x)) ≡ Ok y → (x : A) × (f x ≡ y)
-given (Ok x) f y e = (x, cc)
-given (Err d) f y e = absurd cc
 
 module _ (g : Graph) (loops : ℕ) (s : Said) where
   abbrev Next : Item × Place → Type 0

@@ -4,17 +4,21 @@ use Rattle.xn_model.specs.Graph.{Graph}
 use Rattle.xn_kinds.specs.declared.drawings.Drawing.{Drawing}
 use Rattle.xn_proof.specs.declared.flaw.AnswerErr.{AnswerErr}
 use Rattle.xn_proof.specs.declared.flaw.AnswerErr.TheVariants as errors
-use Rattle.xn_check.specs.Verdict.{DrawVerdict, Verdict}
+use Rattle.xn_check.specs.Judging.{Outcome, Rules}
+use Rattle.xn_check.specs.Verdict.{check_rules, draw_rules}
 use Rattle.xn_check.specs.declared.verdicts.Accepted.{Accepted}
+
+-- a text is refused by the rules for its first flaw, or memory ran out
+abbrev pub Refuses : {S A : Type 0} → Rules S A → List ℕ → AnswerErr → Type 0
+Refuses rules text (errors.Refused flaw) = Outcome rules text (Err flaw)
+Refuses rules text errors.Memory = Unit {0}
 
 -- what a function returned is the verdict, unless memory ran out
 abbrev pub GivesVerdict : Graph → ℕ → List ℕ → Result Accepted AnswerErr → Type 0
-GivesVerdict g loops text (Ok a) = Verdict g loops text (Ok (a.lower, a.upper))
-GivesVerdict g loops text (Err (errors.Refused flaw)) = Verdict g loops text (Err flaw)
-GivesVerdict g loops text (Err errors.Memory) = Unit {0}
+GivesVerdict g loops text (Ok a) = Outcome (check_rules g loops) text (Ok (a.lower, a.upper))
+GivesVerdict g loops text (Err e) = Refuses (check_rules g loops) text e
 
 -- the same of the drawing alone
 abbrev pub GivesDrawing : Graph → ℕ → List ℕ → Result Drawing AnswerErr → Type 0
-GivesDrawing g loops text (Ok drawing) = DrawVerdict g loops text (Ok drawing)
-GivesDrawing g loops text (Err (errors.Refused flaw)) = DrawVerdict g loops text (Err flaw)
-GivesDrawing g loops text (Err errors.Memory) = Unit {0}
+GivesDrawing g loops text (Ok drawing) = Outcome (draw_rules g loops) text (Ok drawing)
+GivesDrawing g loops text (Err e) = Refuses (draw_rules g loops) text e

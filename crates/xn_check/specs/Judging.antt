@@ -4,6 +4,8 @@ use Rattle.xn_kinds.specs.declared.flaws.Flaw.{Flaw}
 use Rattle.xn_kinds.specs.declared.flaws.FlawKind.{FlawKind}
 use Rattle.xn_proof.specs.Forms.{Line, State, is_end, next_at, start_state, text_lines}
 use Rattle.xn_proof.specs.Reading.{syntax}
+use Rattle.xn_proof.specs.declared.flaw.AnswerErr.{AnswerErr}
+use Rattle.xn_proof.specs.declared.flaw.AnswerErr.TheVariants as errors
 use Rattle.xn_proof.specs.declared.item.Item.{Item}
 
 -- what lines have to mean beyond their form, by what those before them said
@@ -38,3 +40,10 @@ Judges rules at s (line ∷ lines) outcome =
 -- the outcome of a text
 abbrev pub Outcome : {S A : Type 0} → Rules S A → List ℕ → Result A Flaw → Type 0
 Outcome rules text outcome = Judges rules start_state rules.start (text_lines text) outcome
+
+-- a line with this number was judged by what was said: it means what it must and is kept, or is refused for what is wrong with
+-- it, or memory ran out
+abbrev pub Judged : {S A : Type 0} → Rules S A → S → ℕ → Item → S → Result (Unit {0}) AnswerErr → Type 0
+Judged rules s number line t (Ok u) = rules.agrees s line × (t ≡ rules.more s line)
+Judged rules s number line t (Err (errors.Refused flaw)) = rules.fails s line flaw.kind × (flaw.line ≡ number)
+Judged rules s number line t (Err errors.Memory) = Unit {0}

@@ -1,14 +1,47 @@
--- What an accepted text shows.
-use Rattle.std.specs.Prelude.{◌≡◌, ℕ, List, Result, Ok}
+-- What texts are that the verdicts accept.
+use Rattle.std.specs.Prelude.{◌≡◌, ℕ, ◌^◌, ◌<◌, ◌↔◌, List, length, Result, Ok}
 use Rattle.xn_model.specs.Drawing.{IsAtMost, IsListedDrawing, Least, order_of}
 use Rattle.xn_model.specs.Graph.{Graph, IsGraph}
 use Rattle.xn_model.specs.Orders.{crossing_count}
 use Rattle.xn_kinds.specs.Tree.{Accepts}
-use Rattle.xn_kinds.specs.declared.rows.Row.{Row}
-use Rattle.xn_kinds.specs.declared.trees.Node.{Node}
-use Rattle.xn_check.specs.Verdict.{DrawVerdict, Verdict}
+use Rattle.xn_kinds.specs.declared.answers.Answer.{Answer}
 use Rattle.xn_kinds.specs.declared.drawings.Drawing.{Drawing}
 use Rattle.xn_kinds.specs.declared.flaws.Flaw.{Flaw}
+use Rattle.xn_kinds.specs.declared.rows.Row.{Row}
+use Rattle.xn_kinds.specs.declared.trees.Node.{Node}
+use Rattle.xn_proof.specs.Spelling.{text_of}
+use Rattle.xn_proof.specs.WellFormed.{WellFormed}
+use Rattle.xn_check.specs.Verdict.{DrawVerdict, Verdict}
+
+-- the text is the one spelling of the answer, which is one for the graph and so many loops: it has a drawing of the graph with
+-- `upper` crossings
+pub record Spells (g : Graph) (loops : ℕ) (text : List ℕ) (a : Answer) : Type 0 where
+  pub well_formed : WellFormed a
+  pub text_is : text ≡ text_of a
+  pub same_graph : a.graph ≡ g
+  pub same_loops : a.loops ≡ loops
+  pub drawing : IsListedDrawing g a.drawing.orders a.drawing.next
+  pub crossings : a.upper ≡ crossing_count g (order_of g a.drawing.orders)
+
+-- of an answer with this drawing
+abbrev pub SpellsDrawing : Graph → ℕ → List ℕ → Drawing → Type 0
+SpellsDrawing g loops text d = (a : Answer) × Spells g loops text a × (a.drawing ≡ d)
+
+-- of an answer with these bounds, whose rows hold and whose tree proves `lower`
+abbrev pub SpellsProof : Graph → ℕ → List ℕ → ℕ → ℕ → Type 0
+SpellsProof g loops text lower upper =
+    (a : Answer) × Spells g loops text a × (a.lower ≡ lower) × (a.upper ≡ upper) × Accepts g lower a.rows a.tree
+
+-- the draw verdict gives a drawing exactly where the text spells an answer with this drawing
+abbrev pub DrawnWhereSpelled : Type 0
+DrawnWhereSpelled =
+    (g : Graph) (loops : ℕ) (text : List ℕ) (d : Drawing) → length text < 2 ^ 63 → DrawVerdict g loops text (Ok d) ↔ SpellsDrawing g loops text d
+
+-- a text is accepted with its bounds exactly where it spells an answer with them and a proof
+abbrev pub AcceptedWhereSpelled : Type 0
+AcceptedWhereSpelled =
+    (g : Graph) (loops : ℕ) (text : List ℕ) (lower upper : ℕ) → length text < 2 ^ 63 →
+    Verdict g loops text (Ok (lower, upper)) ↔ SpellsProof g loops text lower upper
 
 -- the text has a drawing with upper crossings, and rows and a tree that prove lower
 pub record HasProofOf (g : Graph) (lower upper : ℕ) : Type 0 where
@@ -28,7 +61,12 @@ abbrev pub AcceptedTextBounds : Type 0
 AcceptedTextBounds =
     (g : Graph) (loops : ℕ) (text : List ℕ) (lower upper : ℕ) → IsGraph g → Verdict g loops text (Ok (lower, upper)) → Least g lower × IsAtMost g upper
 
--- a text has one verdict of its drawing at most
+-- a text has one verdict at most
+abbrev pub OneVerdict : Type 0
+OneVerdict =
+    (g : Graph) (loops : ℕ) (text : List ℕ) (o p : Result (ℕ × ℕ) Flaw) → IsGraph g → Verdict g loops text o → Verdict g loops text p → o ≡ p
+
+-- and one of its drawing
 abbrev pub OneDrawVerdict : Type 0
 OneDrawVerdict =
     (g : Graph) (loops : ℕ) (text : List ℕ) (o p : Result Drawing Flaw) → IsGraph g → DrawVerdict g loops text o → DrawVerdict g loops text p → o ≡ p

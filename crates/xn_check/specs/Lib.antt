@@ -1,8 +1,12 @@
+pub mod Fitting
+pub mod FrontFits
 pub mod FrontSaid
 pub mod Gives
+pub mod Judge
 pub mod Judging
 pub mod Laws
 pub mod Meaning
+pub mod Parts
 pub mod RowsSaid
 pub mod Said
 pub mod TreeSaid

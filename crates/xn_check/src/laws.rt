@@ -1,5 +1,6 @@
 //! Laws on the verdict. Each is the contract of a function whose body only names the law that it stands on.
-ghost use Rattle.xn_check.specs.Laws.{AcceptedHasProof, AcceptedTextBounds, OneDrawVerdict};
+ghost use Rattle.xn_check.specs.Fitting.{FormsFitRows};
+ghost use Rattle.xn_check.specs.Laws.{AcceptedHasProof, AcceptedTextBounds, DrawnWhereSpelled, OneDrawVerdict, OneVerdict};
 
 use xn_sound::laws::accepted_proofs;
 
@@ -15,9 +16,21 @@ pub fn accepted_bounds()
     accepted_proofs();
 }
 
-/// A text has one verdict of its drawing.
-pub fn one_draw_verdict()
-    ensures { OneDrawVerdict }
+/// The drawing of a text is accepted exactly where the text is the one spelling of an answer for the graph that has this drawing,
+/// with its upper bound of crossings.
+pub fn drawn_texts()
+    ensures { DrawnWhereSpelled }
+{}
+
+/// What the forms of lines tell of the rows, at each place: as many are whole as are said, and the numbers of leaves are those of rows.
+pub fn forms_fit_rows()
+    ensures { FormsFitRows }
+{}
+
+/// A text has one verdict, and one of its drawing.
+pub fn one_verdict()
+    ensures whole { OneVerdict }
+    ensures drawing { OneDrawVerdict }
 {
     xn_draw::laws::first_flaws();
     xn_rows::laws::first_flaws();

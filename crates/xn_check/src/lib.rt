@@ -1,7 +1,14 @@
 //! The checker of answers.
 #![tactic(auto)]
 
+mod front;
+mod judge;
 pub mod laws;
+mod refusals;
+mod row_part;
+#[cfg(test)]
+mod tests;
+mod tree_part;
 mod verdicts;
 
 pub use verdicts::{Accepted, check, check_text, draw_text};

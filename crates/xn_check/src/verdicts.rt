@@ -3,10 +3,14 @@ ghost use Rattle.xn_check.specs.Gives.{GivesDrawing, GivesVerdict};
 ghost use Rattle.xn_proof.specs.Spelling.{text_of};
 ghost use Rattle.xn_proof.specs.WellFormed.{WellFormed};
 
+use crate::front::DrawingJudge;
+use crate::judge::Judge;
+use crate::refusals::refused;
 use std::alloc::Global;
 use xn_graph::Graph;
-use xn_kinds::{Answer, Drawing};
-use xn_proof::AnswerErr;
+use xn_kinds::{Answer, Drawing, FlawKind};
+use xn_proof::{AnswerErr, Forms, write_answer};
+use xn_text::Lines;
 
 /// The bounds of an answer that is accepted.
 #[derive(Clone, Copy, Debug, PartialEq, Eq)]
@@ -27,7 +31,20 @@ pub fn check_text(
 ) -> Result<Accepted, AnswerErr>
     ensures { GivesVerdict graph.now loops text.now result }
 {
-    Err(AnswerErr::Memory)
+    let mut lines = Lines::new(text);
+    let mut forms = Forms::new();
+    let mut judge = Judge::new(alloc, graph, loops)?;
+    let mut number = 1;
+    while let Some(line) = lines.next() {
+        let item = forms.line(alloc, line.bytes, line.ended)?;
+        judge.item(alloc, number, item)?;
+        number = number.saturating_add(1);
+    }
+    if forms.done() {
+        Ok(judge.accepted())
+    } else {
+        Err(refused(number, FlawKind::Syntax))
+    }
 }
 
 /// The same for an answer, by its spelling.
@@ -40,7 +57,8 @@ pub fn check(
     requires { WellFormed answer.now }
     ensures { GivesVerdict graph.now loops (text_of answer.now) result }
 {
-    Err(AnswerErr::Memory)
+    let text = write_answer(alloc, answer)?;
+    check_text(alloc, graph, loops, &text)
 }
 
 /// The drawing of a text that is an answer for the graph, with so many loops left aside, or the first line whose rule fails.
@@ -53,5 +71,18 @@ pub fn draw_text(
 ) -> Result<Drawing, AnswerErr>
     ensures { GivesDrawing graph.now loops text.now result }
 {
-    Err(AnswerErr::Memory)
+    let mut lines = Lines::new(text);
+    let mut forms = Forms::new();
+    let mut judge = DrawingJudge::new(alloc, graph, loops);
+    let mut number = 1;
+    while let Some(line) = lines.next() {
+        let item = forms.line(alloc, line.bytes, line.ended)?;
+        judge.item(alloc, number, item)?;
+        number = number.saturating_add(1);
+    }
+    if forms.done() {
+        Ok(judge.into_drawing())
+    } else {
+        Err(refused(number, FlawKind::Syntax))
+    }
 }

@@ -1,0 +1,172 @@
+-- What the items of an answer have to mean by the rules of a drawing.
+use Rattle.std.proofs.Common.{◌≡◌, ℕ, zero, suc, ◌+◌, ◌*◌, ◌<◌, Bool, true, false, List, [], ◌∷◌, ◌++◌, length, map, drop, get_or, refl, sym, subst, ap, ◌∙◌, arith, append_assoc}
+use Rattle.std.proofs.lemmas.List.{append-nil}
+use Rattle.std.proofs.Math.ListN.{drop_of_length-le}
+use Rattle.std.proofs.Math.Seq.{drop-cons}
+use Rattle.std.specs.List.{flat_map}
+use Rattle.xn_model.specs.Graph.{Graph, ends_at}
+use Rattle.xn_kinds.specs.declared.drawings.Drawing.{Drawing}
+use Rattle.xn_kinds.specs.declared.rows.Evidence.{Evidence}
+use Rattle.xn_kinds.specs.declared.rows.Evidence.TheVariants.{Five, ThreeThree, Extension}
+use Rattle.xn_kinds.specs.declared.rows.Row.{Row}
+use Rattle.xn_kinds.specs.declared.trees.Node.{Node}
+use Rattle.xn_proof.specs.Forms.{drawing_items, evidence_items, row_items, rows_items, tree_items}
+use Rattle.xn_proof.specs.Fronts.{next_of}
+use Rattle.xn_proof.specs.Spelling.{overs_of, turns_of}
+use Rattle.xn_proof.specs.declared.item.Item.{Item}
+use Rattle.xn_proof.specs.declared.item.Item.TheVariants as item
+use Rattle.xn_check.specs.FrontSaid.{FrontSaid, front_said}
+use Rattle.xn_check.specs.Meaning.{FrontAgrees}
+use Rattle.xn_check.specs.Verdict.{draw_rules}
+use Rattle.xn_check.proofs.Items.{AllAgree, agree_join, all_said, said_join}
+
+-- ---- items that are let pass
+
+abbrev pub Passes : Item → Type 0
+Passes (item.Graph nodes edges) = ⊥
+Passes (item.Loops l) = ⊥
+Passes (item.Edge u v) = ⊥
+Passes (item.Bounds lower upper) = ⊥
+Passes (item.Along list) = ⊥
+Passes (item.Turn a b) = ⊥
+Passes item.Drawn = ⊥
+Passes line = Unit {0}
+
+abbrev pub AllPass : List Item → Type 0
+AllPass [] = Unit {0}
+AllPass (x ∷ xs) = Passes x × AllPass xs
+
+pass_join : (xs ys : List Item) → AllPass xs → AllPass ys → AllPass (xs ++ ys)
+pass_join [] ys first second = second
+pass_join (x ∷ xs) ys first second = (first.0, pass_join xs ys first.1 second)
+
+pass_map : {X : Type 0} (say : X → Item) → ((x : X) → Passes (say x)) → (xs : List X) → AllPass (map say xs)
+pass_map say each [] = tt
+pass_map say each (x ∷ xs) = (each x, pass_map say each xs)
+
+evidence_pass : (e : Evidence) → AllPass (evidence_items e)
+evidence_pass (Five branch paths) = (tt, pass_map (λ p. item.Path p) (λ p. tt) paths)
+evidence_pass (ThreeThree branch paths) = (tt, pass_map (λ p. item.Path p) (λ p. tt) paths)
+evidence_pass (Extension list) = (tt, tt)
+
+row_pass : (row : Row) → AllPass (row_items row)
+row_pass row = (
+  tt,
+  pass_join (map (λ o. item.Over o.0 o.1) (overs_of row.edges row.orders)) (evidence_items row.evidence)
+      (pass_map (λ o. item.Over o.0 o.1) (λ o. tt) (overs_of row.edges row.orders)) (evidence_pass row.evidence),
+)
+
+each_pass : (rows : List Row) → AllPass (flat_map row_items rows)
+each_pass [] = tt
+each_pass (row ∷ rows) = pass_join (row_items row) (flat_map row_items rows) (row_pass row) (each_pass rows)
+
+tree_pass : (tree : List Node) → AllPass (tree_items tree)
+tree_pass tree = (tt, pass_join (map (λ n. item.Step n) tree) (item.End ∷ []) (pass_map (λ n. item.Step n) (λ n. tt) tree) (tt, tt))
+
+pub proof_pass : (rows : List Row) (tree : List Node) → AllPass (rows_items rows ++ tree_items tree)
+proof_pass rows tree = pass_join (rows_items rows) (tree_items tree) (tt, each_pass rows) (tree_pass tree)
+
+module _ (g : Graph) (loops : ℕ) where
+  passed : (x : Item) (f : FrontSaid) → Passes x → FrontAgrees g loops f x × (front_said f x ≡ f)
+  passed (item.Header n) f p = (tt, refl)
+  passed (item.Graph nodes edges) f p = absurd p
+  passed (item.Loops l) f p = absurd p
+  passed (item.Edge u v) f p = absurd p
+  passed (item.Bounds lower upper) f p = absurd p
+  passed (item.Effort spent budget) f p = (tt, refl)
+  passed (item.Along list) f p = absurd p
+  passed (item.Turn a b) f p = absurd p
+  passed item.Drawn f p = absurd p
+  passed (item.Rows n) f p = (tt, refl)
+  passed (item.Row n) f p = (tt, refl)
+  passed (item.Over e list) f p = (tt, refl)
+  passed (item.Branch branch) f p = (tt, refl)
+  passed (item.Path path) f p = (tt, refl)
+  passed (item.Extension list) f p = (tt, refl)
+  passed item.Tree f p = (tt, refl)
+  passed (item.Step node) f p = (tt, refl)
+  passed item.End f p = (tt, refl)
+
+  -- such items change nothing
+  pub all_passed : (xs : List Item) (f : FrontSaid) → AllPass xs →
+      AllAgree (draw_rules g loops) f xs × (all_said (draw_rules g loops) f xs ≡ f)
+  all_passed [] f p = (tt, refl)
+  all_passed (x ∷ xs) f p =
+      let one = passed x f p.0 in
+      let rest = all_passed xs f p.1 in
+      subst (λ (h : FrontSaid). (FrontAgrees g loops f x × AllAgree (draw_rules g loops) h xs) × (all_said (draw_rules g loops) h xs ≡ f)) (sym one.1)
+      ((one.0, rest.0), rest.1)
+
+  -- ---- edges
+
+  abbrev pub edge_items : List (ℕ × ℕ) → List Item
+  edge_items es = map (λ e. item.Edge e.0 e.1) es
+
+  pub edges_said : (es : List (ℕ × ℕ)) (f : FrontSaid) →
+      all_said (draw_rules g loops) f (edge_items es) ≡ record f { edges = f.edges + length es }
+  edges_said [] f = ap (λ (n : ℕ). record f { edges = n }) (omega arith)
+  edges_said (e ∷ es) f =
+      edges_said es (record f { edges = f.edges + 1 }) ∙ ap (λ (n : ℕ). record f { edges = n }) (omega arith)
+
+  -- the edges that are said are those from the next one on
+  pub edges_are : (es : List (ℕ × ℕ)) (f : FrontSaid) → f.edges + length es ≡ length g.ends →
+      AllAgree (draw_rules g loops) f (edge_items es) → es ≡ drop f.edges g.ends
+  edges_are [] f fits agree = sym (drop_of_length-le g.ends (omega (arith, fits)))
+  edges_are (e ∷ es) f fits agree =
+      let rest = edges_are es (record f { edges = f.edges + 1 }) (omega (arith, fits)) agree.1 in
+      let next : f.edges + 1 ≡ suc f.edges = omega arith in
+      ap (λ (x : ℕ × ℕ). x ∷ es) agree.0
+      ∙ ap (λ (xs : List (ℕ × ℕ)). ends_at g.ends f.edges ∷ xs) (rest ∙ ap (λ (n : ℕ). drop n g.ends) next)
+      ∙ sym (drop-cons g.ends f.edges (0, 0) (omega (arith, fits)))
+
+  pub edges_agree : (es : List (ℕ × ℕ)) (f : FrontSaid) → f.edges + length es ≡ length g.ends → es ≡ drop f.edges g.ends →
+      AllAgree (draw_rules g loops) f (edge_items es)
+  edges_agree [] f fits same = tt
+  edges_agree (e ∷ es) f fits same =
+      let split = same ∙ drop-cons g.ends f.edges (0, 0) (omega (arith, fits)) in
+      let first : e ≡ ends_at g.ends f.edges = cc in
+      let others : es ≡ drop (suc f.edges) g.ends = cc in
+      let next : suc f.edges ≡ f.edges + 1 = omega arith in
+      (first, edges_agree es (record f { edges = f.edges + 1 }) (omega (arith, fits)) (others ∙ ap (λ (n : ℕ). drop n g.ends) next))
+
+  -- ---- order lists and turns
+
+  alongs_said : (ls : List (List ℕ)) (f : FrontSaid) → let say = map (λ l. item.Along l) ls in
+      AllAgree (draw_rules g loops) f say × (all_said (draw_rules g loops) f say ≡ record f { lists = f.lists ++ ls })
+  alongs_said [] f = (tt, ap (λ (ls : List (List ℕ)). record f { lists = ls }) (sym (append-nil f.lists)))
+  alongs_said (l ∷ ls) f =
+      let rest = alongs_said ls (record f { lists = f.lists ++ l ∷ [] }) in
+      ((tt, rest.0), rest.1 ∙ ap (λ (ls : List (List ℕ)). record f { lists = ls }) (append_assoc f.lists (l ∷ []) ls))
+
+  turns_said : (ts : List (ℕ × ℕ)) (f : FrontSaid) → let say = map (λ t. item.Turn t.0 t.1) ts in
+      AllAgree (draw_rules g loops) f say × (all_said (draw_rules g loops) f say ≡ record f { next = f.next ++ next_of ts })
+  turns_said [] f = (tt, ap (λ (ns : List ℕ). record f { next = ns }) (sym (append-nil f.next)))
+  turns_said (t ∷ ts) f =
+      let rest = turns_said ts (record f { next = f.next ++ t.0 ∷ t.1 ∷ [] }) in
+      ((tt, rest.0), rest.1 ∙ ap (λ (ns : List ℕ). record f { next = ns }) (append_assoc f.next (t.0 ∷ t.1 ∷ []) (next_of ts)))
+
+next_is : (next : List ℕ) (k : ℕ) → length next ≡ 2 * k → next_of (turns_of next) ≡ next
+next_is [] k long = refl
+next_is (a ∷ []) zero long = absurd (omega arith)
+next_is (a ∷ []) (suc k) long = absurd (omega arith)
+next_is (a ∷ b ∷ next) zero long = absurd (omega arith)
+next_is (a ∷ b ∷ next) (suc k) long = ap (λ (ns : List ℕ). a ∷ b ∷ ns) (next_is next k (omega (arith, long)))
+
+module _ (g : Graph) (loops : ℕ) where
+  -- the lists and the turns of a drawing
+  pub drawing_said : (d : Drawing) (k : ℕ) (f : FrontSaid) → length d.next ≡ 2 * k →
+      AllAgree (draw_rules g loops) f (drawing_items d)
+      × (all_said (draw_rules g loops) f (drawing_items d) ≡ record f { lists = f.lists ++ d.orders; next = f.next ++ d.next })
+  drawing_said d k f long =
+      let R = draw_rules g loops in
+      let alongs = map (λ l. item.Along l) d.orders in
+      let turns = map (λ t. item.Turn t.0 t.1) (turns_of d.next) in
+      let first = alongs_said g loops d.orders f in
+      let h : FrontSaid = record f { lists = f.lists ++ d.orders } in
+      let second = turns_said g loops (turns_of d.next) h in (
+        agree_join R f alongs turns first.0 (subst (λ (s : FrontSaid). AllAgree R s turns) (sym first.1) second.0),
+        said_join R f alongs turns
+            ∙ ap (λ (s : FrontSaid). all_said R s turns) first.1
+            ∙ second.1
+            ∙ ap (λ (ns : List ℕ). record h { next = f.next ++ ns }) (next_is d.next k long),
+      )

@@ -1,0 +1,74 @@
+-- What a judge keeps of the rows and of the tree, and what the form of a line says beforehand.
+use Rattle.std.specs.Prelude.{◌≡◌, ℕ, ◌<◌, ◌≤◌, ◌⊎◌, ◌^◌, List, length, All}
+use Rattle.xn_model.specs.Graph.{Graph}
+use Rattle.xn_kinds.specs.Row.{RowHolds}
+use Rattle.xn_kinds.specs.declared.flaws.FlawKind.{FlawKind}
+use Rattle.xn_kinds.specs.declared.rows.Row.{Row}
+use Rattle.xn_kinds.specs.declared.trees.Node.{Node}
+use Rattle.xn_kinds.specs.declared.trees.Node.TheVariants.{Leaf}
+use Rattle.xn_proof.specs.declared.flaw.AnswerErr.{AnswerErr}
+use Rattle.xn_proof.specs.declared.flaw.AnswerErr.TheVariants as errors
+use Rattle.xn_proof.specs.declared.item.Item.{Item}
+use Rattle.xn_proof.specs.declared.item.Item.TheVariants as item
+use Rattle.xn_rows.specs.Walk.{Position, pending_of}
+use Rattle.xn_check.specs.RowsSaid.{RowsSaid}
+use Rattle.xn_check.specs.TreeSaid.{TreeSaid}
+
+-- the line with this number is refused for what is wrong, or memory was wanting
+abbrev pub Refuses : ℕ → (FlawKind → Type 0) → AnswerErr → Type 0
+Refuses number Wrong (errors.Refused flaw) = (kind : FlawKind) × Wrong kind × (flaw ≡ record { line = number; kind = kind })
+Refuses number Wrong errors.Memory = Unit {0}
+
+-- ---- what the form of a line says beforehand
+
+-- there are five or six branch nodes
+abbrev pub IsBranch : List ℕ → Type 0
+IsBranch branch = (length branch ≡ 5) ⊎ (length branch ≡ 6)
+
+-- so many rows may be followed by one more
+abbrev pub HasRoom : ℕ → Type 0
+HasRoom rows = rows < 2 ^ 20
+
+-- the numbers of a leaf are in their ranges, where there are so many rows
+abbrev pub IsInRange : ℕ → Node → Type 0
+IsInRange rows (Leaf d parts) =
+    (1 ≤ d) × (d < 2 ^ 63) × All (λ p. p.0 < rows) parts × All (λ p. (1 ≤ p.1) × (p.1 < 2 ^ 63)) parts × (rows ≤ 2 ^ 20)
+IsInRange rows node = Unit {0}
+
+-- the line may come where this was said of the rows
+abbrev pub MayCome : RowsSaid → Item → Type 0
+MayCome s (item.Path path) = IsBranch s.branch × HasRoom (length s.whole)
+MayCome s (item.Extension list) = HasRoom (length s.whole)
+MayCome s (item.Step node) = IsInRange (length s.whole) node
+MayCome s line = Unit {0}
+
+-- ---- rows
+
+pub record RowsKept : Type 0 where
+  pub graph : Graph
+  pub said : RowsSaid
+
+abbrev pub rows_kept : Graph → List Row → List ℕ → List (List ℕ) → List ℕ → List (List ℕ) → RowsKept
+rows_kept g whole listed orders branch paths = record {
+  graph = g;
+  said = record { whole = whole; listed = listed; orders = orders; branch = branch; paths = paths };
+}
+
+-- each whole row holds, and the row that is begun has a list for each of its edges
+pub record IsRowsKept (v : RowsKept) : Type 0 where
+  pub hold : All (RowHolds v.graph) v.said.whole
+  pub lists_fit : length v.said.orders ≡ length v.said.listed
+
+-- ---- the tree
+
+-- the walk has the graph and the pending states
+pub record TreeKept : Type 0 where
+  pub walk : Position
+  pub nodes : ℕ
+
+abbrev pub tree_kept : Position → ℕ → TreeKept
+tree_kept walk nodes = record { walk = walk; nodes = nodes }
+
+-- what was said of the tree
+abbrev pub tree_of : TreeKept → TreeSaid
+tree_of v = record { pending = pending_of v.walk; nodes = v.nodes }
