@@ -9,7 +9,10 @@ pub mod FrontPlaces
 pub mod Items
 pub mod Leaves
 pub mod Lines
+pub mod OneOutcome
+pub mod Outcomes
 pub mod Parts
+pub mod Rules
 pub mod Spelled
 pub mod Stages
 pub mod Taken

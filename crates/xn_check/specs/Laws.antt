@@ -1,11 +1,12 @@
 -- What texts are that the verdicts accept.
-use Rattle.std.specs.Prelude.{◌≡◌, ℕ, ◌^◌, ◌<◌, ◌↔◌, List, length, Ok}
+use Rattle.std.specs.Prelude.{◌≡◌, ℕ, ◌^◌, ◌<◌, ◌↔◌, List, length, Result, Ok}
 use Rattle.xn_model.specs.Drawing.{IsAtMost, IsListedDrawing, Least, order_of}
 use Rattle.xn_model.specs.Graph.{Graph, IsGraph}
 use Rattle.xn_model.specs.Orders.{crossing_count}
 use Rattle.xn_kinds.specs.Tree.{Accepts}
 use Rattle.xn_kinds.specs.declared.answers.Answer.{Answer}
 use Rattle.xn_kinds.specs.declared.drawings.Drawing.{Drawing}
+use Rattle.xn_kinds.specs.declared.flaws.Flaw.{Flaw}
 use Rattle.xn_kinds.specs.declared.rows.Row.{Row}
 use Rattle.xn_kinds.specs.declared.trees.Node.{Node}
 use Rattle.xn_proof.specs.Spelling.{text_of}
@@ -59,3 +60,13 @@ AcceptedHasProof = (g : Graph) (loops : ℕ) (text : List ℕ) (lower upper : �
 abbrev pub AcceptedTextBounds : Type 0
 AcceptedTextBounds =
     (g : Graph) (loops : ℕ) (text : List ℕ) (lower upper : ℕ) → IsGraph g → Verdict g loops text (Ok (lower, upper)) → Least g lower × IsAtMost g upper
+
+-- a text has one verdict at most
+abbrev pub OneVerdict : Type 0
+OneVerdict =
+    (g : Graph) (loops : ℕ) (text : List ℕ) (o p : Result (ℕ × ℕ) Flaw) → IsGraph g → Verdict g loops text o → Verdict g loops text p → o ≡ p
+
+-- and one of its drawing
+abbrev pub OneDrawVerdict : Type 0
+OneDrawVerdict =
+    (g : Graph) (loops : ℕ) (text : List ℕ) (o p : Result Drawing Flaw) → IsGraph g → DrawVerdict g loops text o → DrawVerdict g loops text p → o ≡ p

@@ -1,6 +1,6 @@
 //! Laws on the verdict. Each is the contract of a function whose body only names the law that it stands on.
 ghost use Rattle.xn_check.specs.Fitting.{FormsFitRows};
-ghost use Rattle.xn_check.specs.Laws.{AcceptedHasProof, AcceptedTextBounds, DrawnWhereSpelled};
+ghost use Rattle.xn_check.specs.Laws.{AcceptedHasProof, AcceptedTextBounds, DrawnWhereSpelled, OneDrawVerdict, OneVerdict};
 
 use xn_sound::laws::accepted_proofs;
 
@@ -26,3 +26,12 @@ pub fn drawn_texts()
 pub fn forms_fit_rows()
     ensures { FormsFitRows }
 {}
+
+/// A text has one verdict, and one of its drawing.
+pub fn one_verdict()
+    ensures whole { OneVerdict }
+    ensures drawing { OneDrawVerdict }
+{
+    xn_draw::laws::first_flaws();
+    xn_rows::laws::first_flaws();
+}

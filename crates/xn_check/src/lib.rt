@@ -6,6 +6,8 @@ mod judge;
 pub mod laws;
 mod refusals;
 mod row_part;
+#[cfg(test)]
+mod tests;
 mod tree_part;
 mod verdicts;
 
