@@ -6,14 +6,14 @@ ghost use Rattle.xn_words.specs.Gives.{request_of_command, words_request};
 ghost use Rattle.xn_words.specs.Request.{check, examine};
 ghost use Rattle.xn_app.specs.Ends.{Finishes, Quits, Ran, SaysBounds, SaysDrawing};
 ghost use Rattle.xn_app.specs.Files.{IsBegun, IsFine, Shows, answer_of};
-ghost use Rattle.xn_app.specs.Outcome.{ComesTo};
-ghost use Rattle.xn_app.specs.Status.{IsEarly, IsJudgedEnd, IsSilent, IsStarted, IsVerdictEnd};
+ghost use Rattle.xn_app.specs.Outcome.{ComesTo, Outcome};
+ghost use Rattle.xn_app.specs.Status.{IsAside, IsEarly, IsJudgedEnd, IsSilent, IsStarted, IsVerdictEnd};
 
 use crate::files::{read_both, read_file};
 use crate::judging::{checked, drawn, examined};
 use crate::status::Status;
 use std::alloc::Global;
-use xn_check::laws::accepted_bounds;
+use xn_check::laws::{accepted_bounds, one_verdict};
 use xn_io::{Input, Sink, write_all};
 use xn_words::{Command, WordsErr, read_words};
 
@@ -31,6 +31,10 @@ pub fn top<I: Input, K: Sink>(alloc: Global, words: &[String], input: &mut I, ou
     ensures ran { IfSome (words_request words.now) (λ asked. IfSome (I.told input.old)
         (λ files. Ran (ComesTo files asked) result (K.taken out.old) (K.taken out.new))) }
 
+    // And where the files lead to an end, it is this one, but for those.
+    ensures exact { IfSome (words_request words.now) (λ asked. IfSome (I.told input.old)
+        (λ files. (outcome : Outcome) → ComesTo files asked outcome → IsAside result ⊎ (result ≡ outcome.0))) }
+
     // What Done means: an accepted answer, whatever it is, bounds the crossing number of its graph from both sides.
     ensures bounds { (graph answer : List ℕ) → words_request words.now ≡ Some (check graph answer) → result ≡ Status.Done
         → IfSome (I.told input.old)
@@ -47,6 +51,7 @@ pub fn top<I: Input, K: Sink>(alloc: Global, words: &[String], input: &mut I, ou
     ensures untouched { IsSilent result → (K.taken out.new ≡ K.taken out.old) × (K.faults out.new ≡ K.faults out.old) }
 {
     accepted_bounds();
+    one_verdict();
     let command = match read_words(alloc, words) {
         Ok(command) => command,
         Err(WordsErr::Refused) => return Status::Words,
