@@ -1,12 +1,12 @@
 -- Each verdict has one outcome.
-use Rattle.std.proofs.Common.{◌≡◌, ℕ, ◌+◌, ◌==◌, inl, inr, Bool, true, false, List, [], ◌∷◌, ◌++◌, Option, Some, None, length, Result, Ok, refl, sym, subst, ap, ◌∙◌, arith}
+use Rattle.std.proofs.Common.{◌≡◌, ℕ, ◌+◌, ◌==◌, inl, inr, Bool, true, false, List, [], ◌∷◌, ◌++◌, Option, Some, None, length, refl, sym, subst, ap, ◌∙◌}
 use Rattle.std.specs.Prelude.{IfSome}
 use Rattle.std.proofs.lemmas.Bool.{eqb-true}
 use Rattle.std.proofs.lemmas.List.{length_push}
 use Rattle.xn_model.specs.Graph.{Graph, IsGraph}
-use Rattle.xn_kinds.specs.declared.flaws.FlawKind.{FlawKind}
+use Rattle.xn_kinds.specs.declared.rows.Evidence.TheVariants as evidence
 use Rattle.xn_kinds.specs.declared.rows.Row.{Row}
-use Rattle.xn_proof.specs.Forms.{Line, State, next_at, start_state, text_lines}
+use Rattle.xn_proof.specs.Forms.{State, start_state, text_lines}
 use Rattle.xn_proof.specs.declared.item.Item.{Item}
 use Rattle.xn_proof.specs.declared.item.Item.TheVariants as item
 use Rattle.xn_rows.specs.Holding.{HasPaths, HasSizes}
@@ -14,8 +14,8 @@ use Rattle.xn_check.specs.Fitting.{RowsFit}
 use Rattle.xn_check.specs.FrontSaid.{FrontSaid, no_front}
 use Rattle.xn_check.specs.Laws.{OneDrawVerdict, OneVerdict}
 use Rattle.xn_check.specs.Parts.{IsBranch, MayCome}
-use Rattle.xn_check.specs.RowsSaid.{RowsSaid, evidence_of, paths_for, row_by_list, row_by_path, row_of, rows_said, with_row}
-use Rattle.xn_check.specs.Said.{Said, nothing_said, said}
+use Rattle.xn_check.specs.RowsSaid.{RowsSaid, evidence_of, paths_for, row_by_path, rows_said, with_row}
+use Rattle.xn_check.specs.Said.{Said, nothing_said}
 use Rattle.xn_check.specs.Verdict.{check_rules, draw_rules}
 use Rattle.xn_check.proofs.Fitting.{forms_fit_rows}
 use Rattle.xn_check.proofs.Outcomes.{Excludes, one_outcome}
@@ -73,11 +73,13 @@ paths_fit branch paths is_branch fit = elim is_branch [
   | inl five ↦
       let test : (length branch == 5) ≡ true = rw five refl in
       let ten : length paths ≡ 10 = fit ∙ rw test refl in
-      subst (λ e. HasPaths e) (sym (rw test refl)) (five, ten)
+      let is : evidence_of branch paths ≡ evidence.Five branch paths = rw test refl in
+      subst HasPaths (sym is) (five, ten)
   | inr six ↦
       let test : (length branch == 5) ≡ false = rw six refl in
       let nine : length paths ≡ 9 = fit ∙ rw test refl in
-      subst (λ e. HasPaths e) (sym (rw test refl)) (six, nine)
+      let is : evidence_of branch paths ≡ evidence.ThreeThree branch paths = rw test refl in
+      subst HasPaths (sym is) (six, nine)
 ]
 
 path_sized : (s : RowsSaid) (path : List ℕ) → IsBranch s.branch → HasLists s → IfSome (row_by_path s path) HasSizes

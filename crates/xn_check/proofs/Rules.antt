@@ -38,6 +38,12 @@ pub record Laws : Type 0 where
   pub row : HoldsWhereFlawless
   pub row_flaw : OneRowFlaw
 
+-- the row that the line ends, if it ends one, has the sizes of a row
+abbrev pub EndsSized : Said → Item → Type 0
+EndsSized s (item.Path path) = IfSome (row_by_path s.rows path) HasSizes
+EndsSized s (item.Extension list) = HasSizes (row_by_list s.rows list)
+EndsSized s line = Unit {0}
+
 module _ (laws : Laws) (g : Graph) (is_graph : IsGraph g) where
   -- ---- drawings
 
@@ -159,12 +165,6 @@ module _ (laws : Laws) (g : Graph) (is_graph : IsGraph g) where
   one_kind_front loops f item.End k l x y = absurd x
 
   -- ---- all lines
-
-  -- the row that the line ends, if it ends one, has the sizes of a row
-  abbrev pub EndsSized : Said → Item → Type 0
-  EndsSized s (item.Path path) = IfSome (row_by_path s.rows path) HasSizes
-  EndsSized s (item.Extension list) = HasSizes (row_by_list s.rows list)
-  EndsSized s line = Unit {0}
 
   pub never_both : (loops : ℕ) (s : Said) (line : Item) (k : FlawKind) → EndsSized s line → Agrees g loops s line → Fails g loops s line k → ⊥
   never_both loops s (item.Header n) k sized agrees fails = never_both_front loops s.front (item.Header n) k agrees fails
