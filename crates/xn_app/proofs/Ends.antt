@@ -56,6 +56,11 @@ pub rose_at_write : (end : Status) (output : List ℕ) (old new : Option (List �
 rose_at_write end output old new before after result judged (inl all) write = absurd (subst IsVerdictEnd (sym all.0 ∙ write) judged)
 rose_at_write end output old new before after result judged (inr part) write = part.2
 
+-- a judged end isn't one of the words
+pub never_words : (end : Status) (output : List ℕ) (old new : Option (List ℕ)) (before after : ℕ) (result : Status) → IsVerdictEnd end → Finishes end output old new before after result → result ≡ Words → ⊥
+never_words end output old new before after result judged (inl all) words = subst IsVerdictEnd (sym all.0 ∙ words) judged
+never_words end output old new before after result judged (inr part) words = let e : Write ≡ Words = sym part.0 ∙ words in cc
+
 -- ---- what was asked, and what the files tell
 
 -- what is said of what a command asks for is said of what the words ask for

@@ -46,14 +46,20 @@ module _ (check_law : OneVerdict) (draw_law : OneDrawVerdict) where
 same_end : (Comes : Outcome → Type 0) (end : Status) (old new : Option (List ℕ)) (outcome : Outcome) → ((x y : Outcome) → Comes x → Comes y → x ≡ y) → Wrote Comes end old new → Comes outcome → IsAside end ⊎ (end ≡ outcome.0)
 same_end Comes end old new outcome one wrote comes = inr (ap (λ (o : Outcome). o.0) (one (end, wrote.output) outcome wrote.comes comes))
 
-pub exact : (Comes : Outcome → Type 0) (end : Status) (old new : Option (List ℕ)) (outcome : Outcome) → ((x y : Outcome) → Comes x → Comes y → x ≡ y) → (end ≡ Words → ⊥) → Ran Comes end old new → Comes outcome → IsAside end ⊎ (end ≡ outcome.0)
-exact Comes Write old new outcome one no ran comes = inl tt
-exact Comes Read old new outcome one no ran comes = inl tt
-exact Comes Memory old new outcome one no ran comes = inl tt
-exact Comes (Limit Bytes) old new outcome one no ran comes = inl tt
-exact Comes Words old new outcome one no ran comes = absurd (no refl)
-exact Comes Done old new outcome one no ran comes = same_end Comes Done old new outcome one ran comes
-exact Comes (Refused flaw) old new outcome one no ran comes = same_end Comes (Refused flaw) old new outcome one ran comes
-exact Comes (Graph e) old new outcome one no ran comes = same_end Comes (Graph e) old new outcome one ran comes
-exact Comes (Limit Nodes) old new outcome one no ran comes = same_end Comes (Limit Nodes) old new outcome one ran comes
-exact Comes (Limit Edges) old new outcome one no ran comes = same_end Comes (Limit Edges) old new outcome one ran comes
+exact : (Comes : Outcome → Type 0) (end : Status) (old new : Option (List ℕ)) (outcome : Outcome) → ((x y : Outcome) → Comes x → Comes y → x ≡ y) → (end ≡ Words → ⊥) → Ran Comes end old new → Comes outcome → IsAside end ⊎ (end ≡ outcome.0)
+exact Comes Write old new outcome one spoken ran comes = inl tt
+exact Comes Read old new outcome one spoken ran comes = inl tt
+exact Comes Memory old new outcome one spoken ran comes = inl tt
+exact Comes (Limit Bytes) old new outcome one spoken ran comes = inl tt
+exact Comes Words old new outcome one spoken ran comes = absurd (spoken refl)
+exact Comes Done old new outcome one spoken ran comes = same_end Comes Done old new outcome one ran comes
+exact Comes (Refused flaw) old new outcome one spoken ran comes = same_end Comes (Refused flaw) old new outcome one ran comes
+exact Comes (Graph e) old new outcome one spoken ran comes = same_end Comes (Graph e) old new outcome one ran comes
+exact Comes (Limit Nodes) old new outcome one spoken ran comes = same_end Comes (Limit Nodes) old new outcome one ran comes
+exact Comes (Limit Edges) old new outcome one spoken ran comes = same_end Comes (Limit Edges) old new outcome one ran comes
+
+-- a run with a command ends as the files lead to
+pub exact_told : (check_law : OneVerdict) (draw_law : OneDrawVerdict) (told : Option Files) (asked : Request) (end : Status) (old new : Option (List ℕ)) → (end ≡ Words → ⊥) → IfSome told (λ files. Ran (ComesTo files asked) end old new) → IfSome told (λ files. (outcome : Outcome) → ComesTo files asked outcome → IsAside end ⊎ (end ≡ outcome.0))
+exact_told check_law draw_law None asked end old new spoken ran = tt
+exact_told check_law draw_law (Some files) asked end old new spoken ran =
+    λ outcome comes. exact (ComesTo files asked) end old new outcome (one_outcome check_law draw_law files asked) spoken ran comes
