@@ -6,11 +6,11 @@ use Rattle.xn_words.specs.Items.{Item, after_name, budgets_of, is_useful, items_
 
 -- what is asked for, with the names of the files
 pub data Request : Type 0 where
-  -- of a graph and an answer
+  -- to judge an answer for a graph
   check : List ℕ → List ℕ → Request
-  -- of an answer
+  -- to test the drawing of an answer
   examine : List ℕ → Request
-  -- of a graph and an answer
+  -- to show the drawing of an answer for a graph
   draw : List ℕ → List ℕ → Request
 
 -- what a command asks for with one operand after it

@@ -6,13 +6,13 @@ ghost use Rattle.xn_words.specs.Parsed.{ParsesWords};
 use clap::{Arg, ArgAction, ArgMatches, Command, Error};
 use std::alloc::Global;
 
-// The positionals and the option of the words, where each word is one of them.
+/// The positionals and the option of the words, where each word is one of them.
 pub fn parse<'a>(alloc: Global, words: &'a [String]) -> Result<ArgMatches<'a>, Error>
     ensures { ParsesWords (map string_bytes words.entry.now) result }
 {
     let command = Arg::new(alloc, "command").required(true);
     let first = Arg::new(alloc, "first").required(true);
-    let second = Arg::new(alloc, "second");
+    let second = Arg::new(alloc, "second").required(false);
     let budget = Arg::new(alloc, "budget")
         .long("budget")
         .action(ArgAction::Set);

@@ -11,7 +11,7 @@ pub returns : goal.returns
 returns c =
     let command_is : rule_of c.required-command.result ≡ given_command = search rules in
     let first_is : rule_of c.required-first.result ≡ given_first = search rules in
-    let second_is : rule_of c.new-second.result ≡ given_second = search rules in
+    let second_is : rule_of c.required-second.result ≡ given_second = search rules in
     let budget_is : rule_of c.action-budget.result ≡ given_budget = search rules in
     let start_is : app_of c.disable_help_flag.result ≡ start = search rules in
     let program_is : app_of c.in_ok-program.program ≡ app =
