@@ -1,3 +1,9 @@
 pub mod Appended
-pub mod TurnSteps
+pub mod Blocks
+pub mod Lines
+pub mod Numbers
 pub mod Owners
+pub mod Shapes
+pub mod Shown
+pub mod TokenKinds
+pub mod TurnSteps

@@ -1,3 +1,4 @@
 pub mod Darts
+pub mod Laws
 pub mod Text
 pub mod Turns

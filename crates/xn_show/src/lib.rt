@@ -1,6 +1,7 @@
 //! The text that shows a drawing, as GML.
 #![tactic(auto)]
 
+pub mod laws;
 mod segments;
 #[cfg(test)]
 mod tests;
