@@ -7,7 +7,6 @@ use Rattle.xn_proof.specs.declared.item.Item.{Item}
 use Rattle.xn_proof.specs.declared.item.Item.TheVariants as item
 use Rattle.xn_check.specs.Fitting.{RowsFit}
 use Rattle.xn_check.specs.FrontFits.{FrontFits, FrontStands}
-use Rattle.xn_check.specs.FrontSaid.{FrontSaid}
 use Rattle.xn_check.specs.Judge.{Kept, said_of}
 use Rattle.xn_check.specs.Judging.{Judged}
 use Rattle.xn_check.specs.Meaning.{Agrees, FrontAgrees}
@@ -28,7 +27,7 @@ pub record Checked (g : Graph) (loops : ℕ) (text : List ℕ) (at : State) (kep
   pub numbered : number ≡ at.0
   pub leads : Leads (check_rules g loops) text at (said_of kept) left
 
-front_agrees : (g : Graph) (loops : ℕ) (s : Said) (x : Item) → Agrees g loops s x → FrontAgrees g loops s.front x
+pub front_agrees : (g : Graph) (loops : ℕ) (s : Said) (x : Item) → Agrees g loops s x → FrontAgrees g loops s.front x
 front_agrees g loops s (item.Header n) a = tt
 front_agrees g loops s (item.Graph n m) a = a
 front_agrees g loops s (item.Loops l) a = a

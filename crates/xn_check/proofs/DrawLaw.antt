@@ -1,22 +1,22 @@
 -- The draw verdict in the words of the answer.
-use Rattle.std.proofs.Common.{◌≡◌, ℕ, ◌+◌, ◌*◌, ◌^◌, ◌<◌, List, [], ◌∷◌, ◌++◌, length, drop, Ok, refl, sym, subst, ap, ◌∙◌, arith}
+use Rattle.std.proofs.Common.{◌≡◌, ℕ, ◌+◌, ◌^◌, ◌<◌, List, ◌∷◌, ◌++◌, length, drop, Ok, sym, subst, ap, ◌∙◌, arith}
 use Rattle.xn_model.specs.Drawing.{IsListedDrawing, order_of}
 use Rattle.xn_model.specs.Graph.{Graph}
 use Rattle.xn_model.specs.Lists.{total}
 use Rattle.xn_model.specs.Orders.{crossing_count}
 use Rattle.xn_kinds.specs.declared.answers.Answer.{Answer}
 use Rattle.xn_kinds.specs.declared.drawings.Drawing.{Drawing}
-use Rattle.xn_proof.specs.Forms.{bounds_items, drawing_items, graph_items, items_of, rows_items, tree_items}
+use Rattle.xn_proof.specs.Forms.{bounds_items, drawing_items, items_of, rows_items, tree_items}
 use Rattle.xn_proof.specs.WellFormed.{WellFormed}
 use Rattle.xn_proof.specs.declared.item.Item.{Item}
 use Rattle.xn_proof.specs.declared.item.Item.TheVariants as item
 use Rattle.xn_check.specs.FrontSaid.{FrontSaid, no_front}
 use Rattle.xn_check.specs.Judging.{Rules}
-use Rattle.xn_check.specs.Laws.{DrawnWhereSpelled, Spells, SpellsDrawing}
+use Rattle.xn_check.specs.Laws.{DrawnWhereSpelled, SpellsDrawing}
 use Rattle.xn_check.specs.Verdict.{DrawVerdict, draw_rules}
 use Rattle.xn_check.proofs.DrawItems.{all_passed, drawing_said, edge_items, edges_agree, edges_are, edges_said, proof_pass}
 use Rattle.xn_check.proofs.Items.{AllAgree, agree_first, agree_head, agree_join, agree_rest, agree_tail, all_said, said_join}
-use Rattle.xn_check.proofs.Spelled.{SaysAnswer, said_so, says}
+use Rattle.xn_check.proofs.Spelled.{said_so, says}
 
 -- the answer is one for the graph and so many loops, with a drawing of `upper` crossings
 pub record IsFor (g : Graph) (loops : ℕ) (a : Answer) : Type 0 where

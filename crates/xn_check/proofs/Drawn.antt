@@ -5,7 +5,7 @@ use Rattle.xn_text.specs.Pieces.{lines_of}
 use Rattle.xn_proof.specs.Forms.{State, next_at}
 use Rattle.xn_proof.specs.declared.item.Item.{Item}
 use Rattle.xn_check.specs.FrontFits.{FrontFits, FrontStands}
-use Rattle.xn_check.specs.FrontSaid.{FrontKept, FrontSaid, front_said}
+use Rattle.xn_check.specs.FrontSaid.{FrontKept}
 use Rattle.xn_check.specs.Judging.{Judged}
 use Rattle.xn_check.specs.Verdict.{draw_rules}
 use Rattle.xn_check.proofs.Folds.{Leads, goes_on}

@@ -1,8 +1,7 @@
 -- By its place a line `edge` isn't one too many.
-use Rattle.std.proofs.Common.{◌≡◌, ℕ, zero, suc, ◌+◌, List, Result, Ok, Err, length, subst, ap, arith}
+use Rattle.std.proofs.Common.{◌≡◌, ℕ, zero, suc, ◌+◌, List, Ok, length, subst, ap, arith}
 use Rattle.xn_model.specs.Graph.{Graph}
 use Rattle.xn_proof.specs.Forms.{Line, State, alongs_from, edges_from, next_at, node_item, overs_from, paths_from, rows_from, start_item, start_paths, turns_from, words_at}
-use Rattle.xn_kinds.specs.declared.flaws.Flaw.{Flaw}
 use Rattle.xn_kinds.specs.declared.trees.Node.{Node}
 use Rattle.std.specs.Prelude.{Option, Some, None}
 use Rattle.xn_text.specs.Pieces.{words_of}

@@ -1,9 +1,9 @@
 -- A text of which each line keeps its rules: what its lines say, one after the other.
-use Rattle.std.proofs.Common.{◌≡◌, ℕ, inl, inr, Bool, true, false, cond, List, [], ◌∷◌, ◌++◌, map, Result, Ok, Err, refl, sym, subst, ap, ◌∙◌}
+use Rattle.std.proofs.Common.{◌≡◌, ℕ, inl, inr, Bool, true, false, cond, List, [], ◌∷◌, ◌++◌, Result, Ok, Err, refl, sym, subst, ap, ◌∙◌}
 use Rattle.xn_kinds.specs.declared.flaws.Flaw.{Flaw}
 use Rattle.xn_proof.specs.Forms.{Line, State, is_end, lines_at, next_at, up_to_end}
 use Rattle.xn_proof.specs.Reading.{◌>>=◌, syntax}
-use Rattle.xn_proof.proofs.Steps.{bind_ok, ok_is}
+use Rattle.xn_proof.proofs.Steps.{ok_is}
 use Rattle.xn_proof.specs.declared.item.Item.{Item}
 use Rattle.xn_check.specs.Judging.{AtEnd, Judges, OnLine, Rules}
 

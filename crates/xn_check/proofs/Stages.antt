@@ -1,5 +1,5 @@
 -- What is known of an answer at each place, where each line so far meant what it must.
-use Rattle.std.proofs.Common.{◌≡◌, ℕ, zero, suc, ◌+◌, List, [], ◌∷◌, ◌++◌, Result, Ok, Err, sym, subst}
+use Rattle.std.proofs.Common.{◌≡◌, ℕ, zero, suc, ◌+◌, List, [], ◌∷◌, ◌++◌, Ok, sym, subst}
 use Rattle.std.specs.Prelude.{All, IfSome, Option, Some, None}
 use Rattle.std.proofs.lemmas.List.{append_assoc}
 use Rattle.std.proofs.lemmas.List.Elements.{All-push}
@@ -9,7 +9,6 @@ use Rattle.xn_model.specs.Orders.{crossing_count}
 use Rattle.xn_kinds.specs.Row.{RowHolds}
 use Rattle.xn_kinds.specs.State.{State, empty_state}
 use Rattle.xn_kinds.specs.Tree.{Finishes, Keeps, Proves, children}
-use Rattle.xn_kinds.specs.declared.flaws.Flaw.{Flaw}
 use Rattle.xn_kinds.specs.declared.rows.Row.{Row}
 use Rattle.xn_kinds.specs.declared.trees.Node.{Node}
 use Rattle.xn_proof.specs.Forms.{alongs_from, edges_from, node_item, overs_from, paths_from, rows_from, start_item, start_paths, turns_from, words_at}

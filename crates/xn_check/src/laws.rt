@@ -1,6 +1,10 @@
 //! Laws on the verdict. Each is the contract of a function whose body only names the law that it stands on.
 ghost use Rattle.xn_check.specs.Fitting.{FormsFitRows};
+<<<<<<< HEAD
 ghost use Rattle.xn_check.specs.Laws.{AcceptedHasProof, AcceptedTextBounds, DrawnWhereSpelled, OneDrawVerdict, OneVerdict};
+=======
+ghost use Rattle.xn_check.specs.Laws.{AcceptedHasProof, AcceptedTextBounds, AcceptedWhereSpelled, DrawnWhereSpelled};
+>>>>>>> 2562a8d33bea5e49a71d6ae5419c85c07e894831
 
 use xn_sound::laws::accepted_proofs;
 
@@ -15,6 +19,12 @@ pub fn accepted_bounds()
 {
     accepted_proofs();
 }
+
+/// A text is accepted with its bounds exactly where it is the one spelling of an answer for the graph that has these bounds, a drawing
+/// with `upper` crossings, rows that hold and a tree that proves `lower`.
+pub fn accepted_where_spelled()
+    ensures { AcceptedWhereSpelled }
+{}
 
 /// The drawing of a text is accepted exactly where the text is the one spelling of an answer for the graph that has this drawing,
 /// with its upper bound of crossings.

@@ -1,0 +1,193 @@
+-- What the items of an answer have to mean: those up to `drawn`, those of rows, those of the tree.
+use Rattle.std.proofs.Common.{◌≡◌, ℕ, List, [], ◌∷◌, ◌++◌, map, refl, sym, subst, ap, ◌∙◌}
+use Rattle.std.specs.List.{flat_map}
+use Rattle.xn_model.specs.Graph.{Graph}
+use Rattle.xn_kinds.specs.State.{State}
+use Rattle.xn_kinds.specs.Tree.{Finishes, Keeps, children}
+use Rattle.xn_kinds.specs.declared.rows.Evidence.{Evidence}
+use Rattle.xn_kinds.specs.declared.rows.Evidence.TheVariants.{Five, ThreeThree, Extension}
+use Rattle.xn_kinds.specs.declared.rows.Row.{Row}
+use Rattle.xn_kinds.specs.declared.trees.Node.{Node}
+use Rattle.xn_proof.specs.Forms.{evidence_items, row_items, rows_items}
+use Rattle.xn_proof.specs.Spelling.{overs_of}
+use Rattle.xn_proof.specs.declared.item.Item.{Item}
+use Rattle.xn_proof.specs.declared.item.Item.TheVariants as item
+use Rattle.xn_rows.specs.Walk.{after}
+use Rattle.xn_check.specs.FrontSaid.{front_said}
+use Rattle.xn_check.specs.Judging.{Rules}
+use Rattle.xn_check.specs.Meaning.{Agrees, FrontAgrees, KeepsFirst}
+use Rattle.xn_check.specs.RowsSaid.{rows_said}
+use Rattle.xn_check.specs.Said.{Said, said}
+use Rattle.xn_check.specs.Verdict.{check_rules, draw_rules}
+use Rattle.xn_check.proofs.Checked.{front_agrees}
+use Rattle.xn_check.proofs.Items.{AllAgree, agree_head, agree_tail, all_said}
+use Rattle.xn_check.proofs.RowItems.{RowAgrees, row_rules}
+
+-- ---- which items
+
+abbrev pub IsFront : Item → Type 0
+IsFront (item.Rows n) = ⊥
+IsFront (item.Row n) = ⊥
+IsFront (item.Over e list) = ⊥
+IsFront (item.Branch branch) = ⊥
+IsFront (item.Path path) = ⊥
+IsFront (item.Extension list) = ⊥
+IsFront item.Tree = ⊥
+IsFront (item.Step node) = ⊥
+IsFront item.End = ⊥
+IsFront line = Unit {0}
+
+abbrev pub IsOfRows : Item → Type 0
+IsOfRows (item.Rows n) = Unit {0}
+IsOfRows (item.Row n) = Unit {0}
+IsOfRows (item.Over e list) = Unit {0}
+IsOfRows (item.Branch branch) = Unit {0}
+IsOfRows (item.Path path) = Unit {0}
+IsOfRows (item.Extension list) = Unit {0}
+IsOfRows line = ⊥
+
+abbrev pub Each : (Item → Type 0) → List Item → Type 0
+Each P [] = Unit {0}
+Each P (x ∷ xs) = P x × Each P xs
+
+pub each_join : (P : Item → Type 0) (xs ys : List Item) → Each P xs → Each P ys → Each P (xs ++ ys)
+each_join P [] ys first second = second
+each_join P (x ∷ xs) ys first second = (first.0, each_join P xs ys first.1 second)
+
+pub each_map : {X : Type 0} (P : Item → Type 0) (say : X → Item) → ((x : X) → P (say x)) → (xs : List X) → Each P (map say xs)
+each_map P say each [] = tt
+each_map P say each (x ∷ xs) = (each x, each_map P say each xs)
+
+evidence_each : (e : Evidence) → Each IsOfRows (evidence_items e)
+evidence_each (Five branch paths) = (tt, each_map IsOfRows (λ p. item.Path p) (λ p. tt) paths)
+evidence_each (ThreeThree branch paths) = (tt, each_map IsOfRows (λ p. item.Path p) (λ p. tt) paths)
+evidence_each (Extension list) = (tt, tt)
+
+row_each : (row : Row) → Each IsOfRows (row_items row)
+row_each row = (
+  tt,
+  each_join IsOfRows (map (λ o. item.Over o.0 o.1) (overs_of row.edges row.orders)) (evidence_items row.evidence)
+      (each_map IsOfRows (λ o. item.Over o.0 o.1) (λ o. tt) (overs_of row.edges row.orders)) (evidence_each row.evidence),
+)
+
+flat_each : (rows : List Row) → Each IsOfRows (flat_map row_items rows)
+flat_each [] = tt
+flat_each (row ∷ rows) = each_join IsOfRows (row_items row) (flat_map row_items rows) (row_each row) (flat_each rows)
+
+pub rows_each : (rows : List Row) → Each IsOfRows (rows_items rows)
+rows_each rows = (tt, flat_each rows)
+
+module _ (g : Graph) (loops : ℕ) where
+  abbrev R : Rules Said (ℕ × ℕ)
+  R = check_rules g loops
+
+  -- ---- what is said up to `drawn`
+
+  pub front_of_said : (xs : List Item) (s : Said) → (all_said R s xs).front ≡ all_said (draw_rules g loops) s.front xs
+  front_of_said [] s = refl
+  front_of_said (x ∷ xs) s = front_of_said xs (said s x)
+
+  pub front_of_agree : (xs : List Item) (s : Said) → AllAgree R s xs → AllAgree (draw_rules g loops) s.front xs
+  front_of_agree [] s all = tt
+  front_of_agree (x ∷ xs) s all = (front_agrees g loops s x all.0, front_of_agree xs (said s x) all.1)
+
+  -- an item up to `drawn` is judged by the rules of the drawing alone
+  front_one : (x : Item) (s : Said) → IsFront x → (FrontAgrees g loops s.front x → Agrees g loops s x) × (said s x ≡ record s { front = front_said s.front x })
+  front_one (item.Header n) s p = (λ a. a, refl)
+  front_one (item.Graph n m) s p = (λ a. a, refl)
+  front_one (item.Loops l) s p = (λ a. a, refl)
+  front_one (item.Edge u v) s p = (λ a. a, refl)
+  front_one (item.Bounds l u) s p = (λ a. a, refl)
+  front_one (item.Effort n m) s p = (λ a. a, refl)
+  front_one (item.Along l) s p = (λ a. a, refl)
+  front_one (item.Turn n m) s p = (λ a. a, refl)
+  front_one item.Drawn s p = (λ a. a, refl)
+  front_one (item.Rows n) s p = absurd p
+  front_one (item.Row n) s p = absurd p
+  front_one (item.Over e l) s p = absurd p
+  front_one (item.Branch b) s p = absurd p
+  front_one (item.Path q) s p = absurd p
+  front_one (item.Extension l) s p = absurd p
+  front_one item.Tree s p = absurd p
+  front_one (item.Step n) s p = absurd p
+  front_one item.End s p = absurd p
+
+  pub all_front : (xs : List Item) (s : Said) → Each IsFront xs →
+      (AllAgree (draw_rules g loops) s.front xs → AllAgree R s xs) × (all_said R s xs ≡ record s { front = all_said (draw_rules g loops) s.front xs })
+  all_front [] s p = (λ a. tt, refl)
+  all_front (x ∷ xs) s p =
+      let one = front_one x s p.0 in
+      let rest = all_front xs (said s x) p.1 in
+      let last = all_said (draw_rules g loops) (front_said s.front x) xs in
+      (λ all. (one.0 all.0, rest.0 all.1), rest.1 ∙ ap (λ (t : Said). record t { front = last }) one.1)
+
+  -- ---- rows
+
+  row_one : (x : Item) (s : Said) → IsOfRows x →
+      (Agrees g loops s x → RowAgrees g s.rows x) × (RowAgrees g s.rows x → Agrees g loops s x) × (said s x ≡ record s { rows = rows_said s.rows x })
+  row_one (item.Header n) s p = absurd p
+  row_one (item.Graph n m) s p = absurd p
+  row_one (item.Loops l) s p = absurd p
+  row_one (item.Edge u v) s p = absurd p
+  row_one (item.Bounds l u) s p = absurd p
+  row_one (item.Effort n m) s p = absurd p
+  row_one (item.Along l) s p = absurd p
+  row_one (item.Turn n m) s p = absurd p
+  row_one item.Drawn s p = absurd p
+  row_one (item.Rows n) s p = (λ a. a, λ a. a, refl)
+  row_one (item.Row n) s p = (λ a. a, λ a. a, refl)
+  row_one (item.Over e l) s p = (λ a. a, λ a. a, refl)
+  row_one (item.Branch b) s p = (λ a. a, λ a. a, refl)
+  row_one (item.Path q) s p = (λ a. a, λ a. a, refl)
+  row_one (item.Extension l) s p = (λ a. a, λ a. a, refl)
+  row_one item.Tree s p = absurd p
+  row_one (item.Step n) s p = absurd p
+  row_one item.End s p = absurd p
+
+  pub all_of_rows : (xs : List Item) (s : Said) → Each IsOfRows xs →
+      (AllAgree R s xs → AllAgree (row_rules g) s.rows xs) × (AllAgree (row_rules g) s.rows xs → AllAgree R s xs)
+      × (all_said R s xs ≡ record s { rows = all_said (row_rules g) s.rows xs })
+  all_of_rows [] s p = (λ a. tt, λ a. tt, refl)
+  all_of_rows (x ∷ xs) s p =
+      let one = row_one x s p.0 in
+      let rest = all_of_rows xs (said s x) p.1 in
+      let last = all_said (row_rules g) (rows_said s.rows x) xs in (
+        λ all. (one.0 all.0, rest.0 all.1),
+        λ all. (one.1 all.0, rest.1 all.1),
+        rest.2 ∙ ap (λ (t : Said). record t { rows = last }) one.2,
+      )
+
+  -- ---- the tree
+
+  finish_none : (k : ℕ) (rows : List Row) (pending : List State) → pending ≡ [] → Finishes (Keeps g k rows) children pending []
+  finish_none k rows pending none = subst (λ (p : List State). Finishes (Keeps g k rows) children p []) (sym none) tt
+
+  none_pending : (k : ℕ) (rows : List Row) (pending : List State) → Finishes (Keeps g k rows) children pending [] → pending ≡ []
+  none_pending k rows [] ends = refl
+  none_pending k rows (t ∷ pending) ends = absurd ends
+
+  finish_more : (k : ℕ) (rows : List Row) (pending : List State) (node : Node) (tree : List Node) → KeepsFirst g k rows pending node →
+      Finishes (Keeps g k rows) children (after pending node) tree → Finishes (Keeps g k rows) children pending (node ∷ tree)
+  finish_more k rows [] node tree keeps ends = absurd keeps
+  finish_more k rows (t ∷ pending) node tree keeps ends = (keeps, ends)
+
+  finish_apart : (k : ℕ) (rows : List Row) (pending : List State) (node : Node) (tree : List Node) →
+      Finishes (Keeps g k rows) children pending (node ∷ tree) →
+      KeepsFirst g k rows pending node × Finishes (Keeps g k rows) children (after pending node) tree
+  finish_apart k rows [] node tree ends = absurd ends
+  finish_apart k rows (t ∷ pending) node tree ends = (ends.0, ends.1)
+
+  pub tree_shows : (tree : List Node) (s : Said) → AllAgree R s (map (λ n. item.Step n) tree ++ item.End ∷ []) →
+      Finishes (Keeps g s.front.lower s.rows.whole) children s.tree.pending tree
+  tree_shows [] s all = finish_none s.front.lower s.rows.whole s.tree.pending all.0
+  tree_shows (node ∷ tree) s all =
+      let steps = map (λ n. item.Step n) tree ++ item.End ∷ [] in
+      finish_more s.front.lower s.rows.whole s.tree.pending node tree (agree_head R s (item.Step node) steps all)
+      (tree_shows tree (said s (item.Step node)) (agree_tail R s (item.Step node) steps all))
+
+  pub tree_kept : (tree : List Node) (s : Said) → Finishes (Keeps g s.front.lower s.rows.whole) children s.tree.pending tree →
+      AllAgree R s (map (λ n. item.Step n) tree ++ item.End ∷ [])
+  tree_kept [] s ends = (none_pending s.front.lower s.rows.whole s.tree.pending ends, tt)
+  tree_kept (node ∷ tree) s ends =
+      let apart = finish_apart s.front.lower s.rows.whole s.tree.pending node tree ends in
+      (apart.0, tree_kept tree (said s (item.Step node)) apart.1)
