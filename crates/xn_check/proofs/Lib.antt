@@ -14,11 +14,8 @@ pub mod Lines
 pub mod OneOutcome
 pub mod Outcomes
 pub mod Parts
-<<<<<<< HEAD
-pub mod Rules
-=======
 pub mod RowItems
->>>>>>> 2562a8d33bea5e49a71d6ae5419c85c07e894831
+pub mod Rules
 pub mod Spelled
 pub mod Stages
 pub mod Taken

@@ -1,10 +1,6 @@
 //! Laws on the verdict. Each is the contract of a function whose body only names the law that it stands on.
 ghost use Rattle.xn_check.specs.Fitting.{FormsFitRows};
-<<<<<<< HEAD
-ghost use Rattle.xn_check.specs.Laws.{AcceptedHasProof, AcceptedTextBounds, DrawnWhereSpelled, OneDrawVerdict, OneVerdict};
-=======
-ghost use Rattle.xn_check.specs.Laws.{AcceptedHasProof, AcceptedTextBounds, AcceptedWhereSpelled, DrawnWhereSpelled};
->>>>>>> 2562a8d33bea5e49a71d6ae5419c85c07e894831
+ghost use Rattle.xn_check.specs.Laws.{AcceptedHasProof, AcceptedTextBounds, AcceptedWhereSpelled, DrawnWhereSpelled, OneDrawVerdict, OneVerdict};
 
 use xn_sound::laws::accepted_proofs;
 
