@@ -1,9 +1,8 @@
 -- What an end says of the files, and of what was written.
-use Rattle.std.proofs.Common.{◌≡◌, ℕ, inl, inr, List, [], Option, None, Some, IfSome, Result, Ok, Err, refl, sym, ap, subst, ◌∙◌}
+use Rattle.std.proofs.Common.{◌≡◌, ℕ, inl, inr, List, [], Option, None, Some, IfSome, sym, subst, ◌∙◌}
 use Rattle.std.specs.Io.KnownBytes.{Appends}
 use Rattle.std.proofs.KnownBytes.{Appends-nil}
 use Rattle.xn_io.specs.Causes.{Rose}
-use Rattle.xn_io.specs.Sink.{TakesPart}
 use Rattle.xn_io.specs.Input.{Files}
 use Rattle.xn_words.specs.Request.{Request}
 use Rattle.xn_app.specs.Ends.{Finishes, Quits, Ran, Wrote}

@@ -1,10 +1,9 @@
 -- What is asked comes to one outcome, and so a run ends so, faults and the like aside.
-use Rattle.std.proofs.Common.{◌≡◌, ◌⊎◌, ℕ, inl, inr, List, [], Option, None, Some, IfSome, Result, Ok, Err, refl, sym, ap, subst, ◌∙◌}
+use Rattle.std.proofs.Common.{◌≡◌, ◌⊎◌, ℕ, inl, inr, List, Option, None, Some, IfSome, Result, Ok, Err, refl, sym, ap, ◌∙◌}
 use Rattle.xn_check.specs.Laws.{OneDrawVerdict, OneVerdict}
 use Rattle.xn_check.specs.Verdict as checking
 use Rattle.xn_gml.specs.Meaning.{Found, graph_of_text}
 use Rattle.xn_io.specs.Input.{Files, bytes_of}
-use Rattle.xn_kinds.specs.declared.drawings.Drawing.{Drawing}
 use Rattle.xn_kinds.specs.declared.flaws.Flaw.{Flaw}
 use Rattle.xn_words.specs.Request.{Request, check, draw, examine}
 use Rattle.xn_app.specs.Ends.{Ran, Wrote}

@@ -1,5 +1,5 @@
 -- The text of an answer has one verdict where only its drawing is judged.
-use Rattle.std.proofs.Common.{◌≡◌, ◌⊎◌, ℕ, inl, inr, List, length, Result, Ok, Err, refl, sym, ap, subst, ◌∙◌}
+use Rattle.std.proofs.Common.{◌≡◌, ◌⊎◌, ℕ, inl, inr, List, length, Result, Ok, Err, refl, sym, ap, ◌∙◌}
 use Rattle.xn_draw.specs.Flaws.{IsFlaw}
 use Rattle.xn_draw.specs.declared.results.Seen.{Seen}
 use Rattle.xn_draw.proofs.Excluded.{no_flaw, one_flaw}
@@ -13,7 +13,7 @@ use Rattle.xn_proof.specs.declared.front.Front.{Front}
 use Rattle.xn_proof.specs.Fronts.{front_at}
 use Rattle.xn_proof.specs.Proofs.{proof_at}
 use Rattle.xn_proof.specs.Reading.{Left}
-use Rattle.xn_app.specs.Verdict.{AfterDrawn, AfterFront, DrawnFails, HasProof, IsDrawn, Miscounts, Verdict}
+use Rattle.xn_app.specs.Verdict.{AfterDrawn, AfterFront, DrawnFails, IsDrawn, Miscounts, Verdict}
 
 -- ---- the line `drawn`
 

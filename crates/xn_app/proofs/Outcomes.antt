@@ -1,11 +1,9 @@
 -- What a verdict leads to, and what an end says of it.
-use Rattle.std.proofs.Common.{◌≡◌, ℕ, List, Option, None, Some, IfSome, Result, Ok, Err, refl, sym, ap, subst, ◌∙◌}
+use Rattle.std.proofs.Common.{◌≡◌, ℕ, List, Option, None, Some, IfSome, Result, Ok, Err, refl, ap, subst}
 use Rattle.std.specs.Io.KnownBytes.{Appends}
 use Rattle.xn_io.specs.Input.{Files, bytes_of}
-use Rattle.xn_model.specs.Graph.{IsGraph}
 use Rattle.xn_check.specs.Laws.{AcceptedTextBounds}
 use Rattle.xn_check.specs.Verdict as checking
-use Rattle.xn_draw.specs.declared.results.Seen.{Seen}
 use Rattle.xn_gml.specs.Meaning.{Found, graph_of_text}
 use Rattle.xn_gml.specs.declared.errors.GmlErr.{GmlErr}
 use Rattle.xn_gml.specs.declared.errors.GmlErr.TheVariants as gml

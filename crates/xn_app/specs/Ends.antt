@@ -1,5 +1,5 @@
 -- What an end says of the files, and of what was written.
-use Rattle.std.specs.Prelude.{◌≡◌, ◌⊎◌, ℕ, List, [], Option, Result, Ok, Err}
+use Rattle.std.specs.Prelude.{◌≡◌, ◌⊎◌, ℕ, List, [], Option, Ok}
 use Rattle.std.specs.Io.KnownBytes.{Appends}
 use Rattle.xn_io.specs.Causes.{Rose}
 use Rattle.xn_io.specs.Sink.{TakesPart}
@@ -7,14 +7,13 @@ use Rattle.xn_model.specs.Drawing.{IsAtMost, Least}
 use Rattle.xn_check.specs.Verdict as checking
 use Rattle.xn_draw.specs.declared.results.Seen.{Seen}
 use Rattle.xn_gml.specs.Meaning.{Found, graph_of_text}
-use Rattle.xn_kinds.specs.declared.flaws.Flaw.{Flaw}
 use Rattle.xn_app.specs.declared.status.Limit.TheVariants.{Bytes}
 use Rattle.xn_app.specs.declared.status.Status.{Status}
 use Rattle.xn_app.specs.declared.status.Status.TheVariants.{Words, Limit, Read, Write, Memory}
 use Rattle.xn_app.specs.Files.{EndsReading}
 use Rattle.xn_app.specs.Outcome.{Outcome}
 use Rattle.xn_app.specs.Output.{accepted_line, seen_line}
-use Rattle.xn_app.specs.Verdict.{SpellsDrawing, Verdict}
+use Rattle.xn_app.specs.Verdict.{SpellsDrawing}
 
 -- this end has an outcome, whose bytes were written
 pub record Wrote (Comes : Outcome → Type 0) (status : Status) (old new : Option (List ℕ)) : Type 0 where
