@@ -1,50 +1,81 @@
--- What an end says of a told file, and of what was written.
-use Rattle.std.proofs.Common.{◌≡◌, ℕ, ◌<◌, List, length, take, Option, None, Some, IfSome, Result, Ok, Err, sym, subst, ◌∙◌}
+-- What an end says of the files, and of what was written.
+use Rattle.std.proofs.Common.{◌≡◌, ℕ, inl, inr, List, [], Option, None, Some, IfSome, sym, subst, ◌∙◌}
 use Rattle.std.specs.Io.KnownBytes.{Appends}
-use Rattle.xn_io.specs.Input.{Files, bytes_of, AreAllOf}
-use Rattle.xn_io.specs.Sink.{TakesPart}
-use Rattle.xn_draw.specs.declared.results.Seen.{Seen}
-use Rattle.xn_kinds.specs.declared.flaws.Flaw.{Flaw}
+use Rattle.std.proofs.KnownBytes.{Appends-nil}
+use Rattle.xn_io.specs.Causes.{Rose}
+use Rattle.xn_io.specs.Input.{Files}
+use Rattle.xn_words.specs.Request.{Request}
+use Rattle.xn_app.specs.Ends.{Finishes, Quits, Ran, Wrote}
+use Rattle.xn_app.specs.Outcome.{ComesTo, Outcome}
+use Rattle.xn_app.specs.Status.{IsEarly, IsVerdictEnd}
+use Rattle.xn_app.specs.declared.status.Limit.TheVariants.{Bytes, Edges, Nodes}
 use Rattle.xn_app.specs.declared.status.Status.{Status}
-use Rattle.xn_app.specs.declared.status.Status.TheVariants.{Done, Refused}
-use Rattle.xn_app.specs.Ends.{EndsWith, SaysDrawing, SaysFlaw, WroteFor}
-use Rattle.xn_app.specs.Output.{output_of}
-use Rattle.xn_app.specs.Status.{status_of}
-use Rattle.xn_app.specs.Verdict.{Verdict}
-use Rattle.xn_app.proofs.Verdicts.{seen_are_spelled, drawings_are_taken}
+use Rattle.xn_app.specs.declared.status.Status.TheVariants.{Done, Refused, Words, Graph, Limit, Read, Write, Memory}
 
--- what is said of the text that was read is said of the told bytes
-pub of_told : (told : Option Files) (file text : List ℕ) (P : List ℕ → Type 0) → AreAllOf told file text → P text → IfSome told (λ files. P (bytes_of files file))
-of_told None file text P read p = tt
-of_told (Some files) file text P read p = subst P read p
+-- ---- no bytes belong to an early end
 
-done_by : (text : List ℕ) (verdict : Result Seen Flaw) (old new : Option (List ℕ)) → Verdict text verdict → Done ≡ status_of verdict → Appends old new (output_of verdict) → SaysDrawing text old new
-done_by text (Ok seen) old new holds e written = record { seen = seen; drawing = seen_are_spelled text seen holds; written = written }
-done_by text (Err flaw) old new holds e written = absurd cc
+wrote_nothing : (Comes : Outcome → Type 0) (end : Status) (old : Option (List ℕ)) → Comes (end, []) → Wrote Comes end old old
+wrote_nothing Comes end old comes = record { output = []; comes = comes; written = Appends-nil old }
 
-pub done : (text : List ℕ) (status : Status) (line : List ℕ) (old new : Option (List ℕ)) → EndsWith text status line → status ≡ Done → Appends old new line → SaysDrawing text old new
-done text status line old new ends e written =
-    done_by text ends.verdict old new ends.holds (sym e ∙ ends.status_is) (subst (λ l. Appends old new l) ends.line_is written)
+pub quit : (Comes : Outcome → Type 0) (end : Status) (old : Option (List ℕ)) → IsEarly end → Quits Comes end → Ran Comes end old old
+quit Comes (Graph e) old early (inl reading) = absurd reading
+quit Comes (Graph e) old early (inr comes) = wrote_nothing Comes (Graph e) old comes
+quit Comes (Limit Nodes) old early (inl reading) = absurd reading
+quit Comes (Limit Nodes) old early (inr comes) = wrote_nothing Comes (Limit Nodes) old comes
+quit Comes (Limit Edges) old early (inl reading) = absurd reading
+quit Comes (Limit Edges) old early (inr comes) = wrote_nothing Comes (Limit Edges) old comes
+quit Comes (Limit Bytes) old early quits = tt
+quit Comes Read old early quits = tt
+quit Comes Memory old early quits = tt
+quit Comes Done old early quits = absurd early
+quit Comes (Refused flaw) old early quits = absurd early
+quit Comes Words old early quits = absurd early
+quit Comes Write old early quits = absurd early
 
-refused_by : (text : List ℕ) (verdict : Result Seen Flaw) (flaw : Flaw) (old new : Option (List ℕ)) → Verdict text verdict → Refused flaw ≡ status_of verdict → Appends old new (output_of verdict) → SaysFlaw text flaw old new
-refused_by text (Ok seen) flaw old new holds e written = absurd cc
-refused_by text (Err found) flaw old new holds e written =
-    let same : found ≡ flaw = cc in
-    subst (λ f. SaysFlaw text f old new) same (record {
-      refused = holds;
-      no_drawing = λ seen drawing. drawings_are_taken text seen found drawing holds;
-      written = written;
-    })
+-- ---- the bytes of a judged end
 
-pub refused : (text : List ℕ) (status : Status) (line : List ℕ) (flaw : Flaw) (old new : Option (List ℕ)) → EndsWith text status line → status ≡ Refused flaw → Appends old new line → SaysFlaw text flaw old new
-refused text status line flaw old new ends e written =
-    refused_by text ends.verdict flaw old new ends.holds (sym e ∙ ends.status_is) (subst (λ l. Appends old new l) ends.line_is written)
+wrote_all : (Comes : Outcome → Type 0) (end : Status) (output : List ℕ) (old new : Option (List ℕ)) → IsVerdictEnd end → Comes (end, output) → Appends old new output → Ran Comes end old new
+wrote_all Comes Done output old new judged comes written = record { output = output; comes = comes; written = written }
+wrote_all Comes (Refused flaw) output old new judged comes written = record { output = output; comes = comes; written = written }
+wrote_all Comes Write output old new judged comes written = absurd judged
+wrote_all Comes Words output old new judged comes written = absurd judged
+wrote_all Comes (Graph e) output old new judged comes written = absurd judged
+wrote_all Comes (Limit l) output old new judged comes written = absurd judged
+wrote_all Comes Read output old new judged comes written = absurd judged
+wrote_all Comes Memory output old new judged comes written = absurd judged
 
-pub wrote : (text : List ℕ) (status : Status) (line : List ℕ) (old new : Option (List ℕ)) → EndsWith text status line → TakesPart old new line → WroteFor text old new
-wrote text status line old new ends part = record {
-  verdict = ends.verdict;
-  holds = ends.holds;
-  count = part.0;
-  short = subst (λ (l : List ℕ). part.0 < length l) ends.line_is part.1;
-  written = subst (λ (l : List ℕ). Appends old new (take part.0 l)) ends.line_is part.2;
-}
+pub finished : (Comes : Outcome → Type 0) (end : Status) (output : List ℕ) (old new : Option (List ℕ)) (before after : ℕ) (result : Status) → IsVerdictEnd end → Comes (end, output) → Finishes end output old new before after result → Ran Comes result old new
+finished Comes end output old new before after result judged comes (inl all) =
+    subst (λ s. Ran Comes s old new) (sym all.0) (wrote_all Comes end output old new judged comes all.1)
+finished Comes end output old new before after result judged comes (inr part) =
+    subst (λ s. Ran Comes s old new) (sym part.0) (record { outcome = (end, output); comes = comes; written = part.1 })
+
+-- the end is a fault of the sink only where its count rose
+pub rose_at_write : (end : Status) (output : List ℕ) (old new : Option (List ℕ)) (before after : ℕ) (result : Status) → IsVerdictEnd end → Finishes end output old new before after result → result ≡ Write → Rose before after
+rose_at_write end output old new before after result judged (inl all) write = absurd (subst IsVerdictEnd (sym all.0 ∙ write) judged)
+rose_at_write end output old new before after result judged (inr part) write = part.2
+
+-- a judged end isn't one of the words
+pub never_words : (end : Status) (output : List ℕ) (old new : Option (List ℕ)) (before after : ℕ) (result : Status) → IsVerdictEnd end → Finishes end output old new before after result → result ≡ Words → ⊥
+never_words end output old new before after result judged (inl all) words = subst IsVerdictEnd (sym all.0 ∙ words) judged
+never_words end output old new before after result judged (inr part) words = let e : Write ≡ Words = sym part.0 ∙ words in cc
+
+-- ---- what was asked, and what the files tell
+
+-- what is said of what a command asks for is said of what the words ask for
+pub asked_is : (asked : Option Request) (r : Request) (P : Request → Type 0) → asked ≡ Some r → P r → IfSome asked P
+asked_is asked r P is p = subst (λ o. IfSome o P) (sym is) p
+
+-- two things that the words ask for are one
+pub asked_same : (asked : Option Request) (r s : Request) → asked ≡ Some r → asked ≡ Some s → r ≡ s
+asked_same asked r s first second = some_is r s (sym first ∙ second)
+  where
+    some_is : (r s : Request) → Some r ≡ Some s → r ≡ s
+    some_is r s e = cc
+
+-- a run whose output was made
+pub ran_on : (told : Option Files) (r : Request) (end : Status) (output : List ℕ) (old new : Option (List ℕ)) (before after : ℕ) (result : Status) → IsVerdictEnd end →
+    Finishes end output old new before after result → IfSome told (λ files. ComesTo files r (end, output)) → IfSome told (λ files. Ran (ComesTo files r) result old new)
+ran_on None r end output old new before after result judged finishes comes = tt
+ran_on (Some files) r end output old new before after result judged finishes comes =
+    finished (ComesTo files r) end output old new before after result judged comes finishes

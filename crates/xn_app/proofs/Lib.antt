@@ -1,2 +1,7 @@
 pub mod Ends
+pub mod Graphs
+pub mod OneOutcome
+pub mod OneVerdict
+pub mod Outcomes
+pub mod ReadFiles
 pub mod Verdicts

@@ -1,8 +1,6 @@
--- The line that is written.
-use Rattle.std.specs.Prelude.{ℕ, List, ◌++◌, Result, Ok, Err, decimal, codes}
+-- The lines that are written.
+use Rattle.std.specs.Prelude.{ℕ, List, ◌++◌, decimal, codes}
 use Rattle.xn_draw.specs.declared.results.Seen.{Seen}
-use Rattle.xn_kinds.specs.declared.flaws.Flaw.{Flaw}
-use Rattle.xn_proof.specs.Refusal.{flaw_line}
 
 -- what is said of a drawing
 abbrev pub seen_line : Seen → List ℕ
@@ -13,7 +11,6 @@ seen_line seen =
     ++ (codes " faces " ++ (decimal seen.euler.f
     ++ (codes " components " ++ (decimal seen.euler.c ++ codes "\n")))))))))
 
--- the line for a verdict
-abbrev pub output_of : Result Seen Flaw → List ℕ
-output_of (Ok seen) = seen_line seen
-output_of (Err flaw) = flaw_line flaw
+-- what is said of an answer that is accepted: its bounds, lower and upper
+abbrev pub accepted_line : ℕ × ℕ → List ℕ
+accepted_line bounds = codes "accepted " ++ (decimal bounds.0 ++ (codes " " ++ (decimal bounds.1 ++ codes "\n")))

@@ -1,50 +1,65 @@
--- The codes of the ends, and at which nothing is written.
-use Rattle.std.specs.Prelude.{ℕ, Result, Ok, Err}
-use Rattle.xn_draw.specs.declared.results.Seen.{Seen}
-use Rattle.xn_kinds.specs.declared.flaws.Flaw.{Flaw}
-use Rattle.xn_app.specs.declared.status.Status.{Status}
-use Rattle.xn_app.specs.declared.status.Status.TheVariants.{Done, Refused, Words, Limit, Read, Write, Memory}
+-- The codes of the ends, and at which what is written.
+use Rattle.std.specs.Prelude.{ℕ}
+use Rattle.xn_io.specs.declared.reading.ReadErr.{ReadErr}
+use Rattle.xn_io.specs.declared.reading.ReadErr.TheVariants as reading
+use Rattle.xn_app.specs.declared.status.Limit.TheVariants.{Bytes}
+use Rattle.xn_app.specs.declared.status.Status as status
+use Rattle.xn_app.specs.declared.status.Status.TheVariants.{Done, Refused, Words, Graph, Limit as Limited, Read, Write, Memory}
 
-abbrev pub code_of : Status → ℕ
+abbrev pub code_of : status.Status → ℕ
 code_of Done = 0
-code_of (Refused f) = 1
+code_of (Refused flaw) = 1
 code_of Words = 2
-code_of (Limit l) = 4
+code_of (Graph e) = 3
+code_of (Limited limit) = 4
 code_of Read = 6
 code_of Write = 7
 code_of Memory = 8
 
 -- an end at which the sink is untouched
-abbrev pub IsSilent : Status → Type 0
+abbrev pub IsSilent : status.Status → Type 0
 IsSilent Done = ⊥
-IsSilent (Refused f) = ⊥
+IsSilent (Refused flaw) = ⊥
 IsSilent Write = ⊥
-IsSilent Words = Unit {0}
-IsSilent (Limit l) = Unit {0}
-IsSilent Read = Unit {0}
-IsSilent Memory = Unit {0}
+IsSilent end = Unit {0}
 
--- an end after the command's file was begun
-abbrev pub IsBegun : Status → Type 0
-IsBegun Done = Unit {0}
-IsBegun (Refused f) = Unit {0}
-IsBegun (Limit l) = Unit {0}
-IsBegun Read = Unit {0}
-IsBegun Write = Unit {0}
-IsBegun Words = ⊥
-IsBegun Memory = ⊥
+-- an end to which a verdict leads
+abbrev pub IsVerdictEnd : status.Status → Type 0
+IsVerdictEnd Done = Unit {0}
+IsVerdictEnd (Refused flaw) = Unit {0}
+IsVerdictEnd end = ⊥
 
--- an end at which the whole file was judged
-abbrev pub IsJudged : Status → Type 0
-IsJudged Done = Unit {0}
-IsJudged (Refused f) = Unit {0}
-IsJudged Write = Unit {0}
-IsJudged Words = ⊥
-IsJudged (Limit l) = ⊥
-IsJudged Read = ⊥
-IsJudged Memory = ⊥
+-- an end at which the command's last file was judged
+abbrev pub IsJudgedEnd : status.Status → Type 0
+IsJudgedEnd Done = Unit {0}
+IsJudgedEnd (Refused flaw) = Unit {0}
+IsJudgedEnd Write = Unit {0}
+IsJudgedEnd end = ⊥
 
--- the end to which a verdict leads
-abbrev pub status_of : Result Seen Flaw → Status
-status_of (Ok seen) = Done
-status_of (Err flaw) = Refused flaw
+-- an end after a file of the command was begun
+abbrev pub IsStarted : status.Status → Type 0
+IsStarted Words = ⊥
+IsStarted Memory = ⊥
+IsStarted end = Unit {0}
+
+-- an end before an answer was judged, where there was a command
+abbrev pub IsEarly : status.Status → Type 0
+IsEarly (Graph e) = Unit {0}
+IsEarly (Limited limit) = Unit {0}
+IsEarly Read = Unit {0}
+IsEarly Memory = Unit {0}
+IsEarly end = ⊥
+
+-- an end that says nothing of the files: a fault, want of memory, or a file of too many bytes
+abbrev pub IsAside : status.Status → Type 0
+IsAside (Limited Bytes) = Unit {0}
+IsAside Read = Unit {0}
+IsAside Write = Unit {0}
+IsAside Memory = Unit {0}
+IsAside end = ⊥
+
+-- the end where a file wasn't read
+abbrev pub status_of_read : ReadErr → status.Status
+status_of_read reading.Fault = Read
+status_of_read reading.TooLong = Limited Bytes
+status_of_read reading.Memory = Memory

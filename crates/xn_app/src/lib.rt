@@ -1,7 +1,9 @@
-//! The program, over whatever input and sink it is given: reading the words, judging a file, writing one line.
+//! The program, over whatever input and sink it is given: reading the words and the files, judging an answer, writing.
 #![tactic(auto)]
 
 mod examine;
+mod files;
+mod judging;
 pub mod laws;
 mod output;
 mod status;
@@ -9,6 +11,7 @@ mod top_call;
 
 pub use status::{Limit, Status};
 pub use top_call::top;
+pub use xn_words::{Command, WordsErr, read_words};
 
 #[cfg(test)]
 mod tests;

@@ -1,8 +1,9 @@
-// The line that says what was found.
+// The lines that say what was found.
 ghost use Rattle.std.specs.Prelude.{◌≡◌, IfOk};
-ghost use Rattle.xn_app.specs.Output.{seen_line};
+ghost use Rattle.xn_app.specs.Output.{accepted_line, seen_line};
 
 use std::alloc::{AllocError, Global};
+use xn_check::Accepted;
 use xn_draw::Seen;
 
 /// The line for a drawing.
@@ -17,5 +18,15 @@ pub fn seen_line(alloc: Global, seen: &Seen) -> Result<Vec<u8>, AllocError>
     let line = format!(in alloc;
         "drawing crossings {crossings} nodes {v} edges {e} faces {f} components {c}\n"
     )?;
+    Ok(line.into_bytes())
+}
+
+/// The line for an answer that is accepted.
+pub fn accepted_line(alloc: Global, accepted: Accepted) -> Result<Vec<u8>, AllocError>
+    ensures { IfOk result (λ line. line.items ≡ accepted_line (accepted.lower, accepted.upper)) }
+{
+    let lower = accepted.lower;
+    let upper = accepted.upper;
+    let line = format!(in alloc; "accepted {lower} {upper}\n")?;
     Ok(line.into_bytes())
 }

@@ -1,7 +1,12 @@
 // How the program ends.
 ghost use Rattle.std.specs.Prelude.{◌≡◌};
-ghost use Rattle.xn_app.specs.Status.{code_of};
+ghost use Rattle.xn_app.specs.Outcome.{refused_graph};
+ghost use Rattle.xn_app.specs.Status.{code_of, status_of_read};
+ghost use Rattle.xn_app.specs.declared.status.Status.TheVariants.{Memory};
 
+use std::alloc::AllocError;
+use xn_gml::GmlErr;
+use xn_io::ReadErr;
 use xn_kinds::Flaw;
 
 /// A limit that the input passes.
@@ -9,6 +14,10 @@ use xn_kinds::Flaw;
 pub enum Limit {
     /// A file has more than 2^62 bytes.
     Bytes,
+    /// The graph has more than 1,000 nodes.
+    Nodes,
+    /// The graph has more than 1,000 edges that are no loops.
+    Edges,
 }
 
 /// How a run ends.
@@ -20,6 +29,8 @@ pub enum Status {
     Refused(Flaw),
     /// The words are no command.
     Words,
+    /// The text of the graph's file has no graph, for this reason.
+    Graph(GmlErr),
     /// The input passes a limit.
     Limit(Limit),
     /// A read failed.
@@ -39,10 +50,44 @@ impl Status {
             Status::Done => 0,
             Status::Refused(_) => 1,
             Status::Words => 2,
+            Status::Graph(_) => 3,
             Status::Limit(_) => 4,
             Status::Read => 6,
             Status::Write => 7,
             Status::Memory => 8,
         }
+    }
+}
+
+impl From<ReadErr> for Status {
+    ghost from_gives = { λ e status. status ≡ status_of_read e };
+
+    fn from(e: ReadErr) -> Status {
+        match e {
+            ReadErr::Fault => Status::Read,
+            ReadErr::TooLong => Status::Limit(Limit::Bytes),
+            ReadErr::Memory => Status::Memory,
+        }
+    }
+}
+
+impl From<GmlErr> for Status {
+    ghost from_gives = { λ e status. status ≡ refused_graph e };
+
+    fn from(e: GmlErr) -> Status {
+        match e {
+            GmlErr::TooManyNodes => Status::Limit(Limit::Nodes),
+            GmlErr::TooManyEdges => Status::Limit(Limit::Edges),
+            GmlErr::Memory => Status::Memory,
+            _ => Status::Graph(e),
+        }
+    }
+}
+
+impl From<AllocError> for Status {
+    ghost from_gives = { λ _ status. status ≡ Memory };
+
+    fn from(_e: AllocError) -> Status {
+        Status::Memory
     }
 }

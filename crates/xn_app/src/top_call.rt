@@ -1,74 +1,108 @@
 // All that the program does.
-ghost use Rattle.std.specs.Prelude.{◌≡◌, ◌^◌, ◌<◌, ◌≤◌, ◌↔◌, Some, true, IfOk, IfSome};
+ghost use Rattle.std.specs.Prelude.{◌≡◌, ◌⊎◌, List, ℕ, Some, IfOk, IfErr, IfSome, IfNone};
 ghost use Rattle.xn_io.specs.Causes.{Rose};
-ghost use Rattle.xn_io.specs.Input.{bytes_of, IsLonger};
-ghost use Rattle.xn_kinds.specs.declared.flaws.Flaw.{Flaw};
-ghost use Rattle.xn_app.specs.Command.{IsExamine, file_of};
-ghost use Rattle.xn_app.specs.Ends.{EndsWith, SaysDrawing, SaysFlaw, WroteFor};
-ghost use Rattle.xn_app.specs.Status.{IsBegun, IsJudged, IsSilent};
+ghost use Rattle.xn_io.specs.Input.{bytes_of};
+ghost use Rattle.xn_words.specs.Gives.{request_of_command, words_request};
+ghost use Rattle.xn_words.specs.Request.{check, examine};
+ghost use Rattle.xn_app.specs.Ends.{Finishes, Quits, Ran, SaysBounds, SaysDrawing};
+ghost use Rattle.xn_app.specs.Files.{IsBegun, IsFine, Shows, answer_of};
+ghost use Rattle.xn_app.specs.Outcome.{ComesTo, Outcome};
+ghost use Rattle.xn_app.specs.Status.{IsAside, IsEarly, IsJudgedEnd, IsSilent, IsStarted, IsVerdictEnd};
 
-use crate::examine::examine_text;
-use crate::output::seen_line;
-use crate::status::{Limit, Status};
-use std::alloc::{AllocError, Global};
-use xn_io::{Input, ReadErr, Sink, read_all, write_all};
-use xn_proof::{AnswerErr, write_flaw};
+use crate::files::{read_both, read_file};
+use crate::judging::{checked, drawn, examined};
+use crate::status::Status;
+use std::alloc::Global;
+use xn_check::laws::{accepted_bounds, one_verdict};
+use xn_io::{Input, Sink, write_all};
+use xn_words::{Command, WordsErr, read_words};
 
-// The most bytes of a file.
-const MAX_BYTES: u64 = 1 << 62;
-
-/// Does all that the program does: reads the answer that the words name, tests its drawing and writes one line.
+/// Does all that the program does: reads the words, reads the files that they name, judges the answer, and writes what
+/// belongs to that.
 ///
 /// The words begin with the program's name. The input and the sink are whatever is handed in: what the clauses say
 /// of files and of bytes written holds where the input tells its files and the sink what it took.
 pub fn top<I: Input, K: Sink>(alloc: Global, words: &[String], input: &mut I, out: &mut K) -> Status
-    ensures words { result ≡ Status.Words ↔ ¬ (IsExamine words.now) }
-    ensures begun { IsBegun result → IsExamine words.now × (I.name input.new ≡ Some (file_of words.now)) }
+    // Words that ask for nothing are refused, unless memory is wanting; and no others.
+    ensures no_words { IfNone (words_request words.now) ((result ≡ Status.Words) ⊎ (result ≡ Status.Memory)) }
+    ensures words { IfSome (words_request words.now) (λ asked. (result ≡ Status.Words) → ⊥) }
 
-    // What Done and Refused say of the file, and what was written.
-    ensures done { result ≡ Status.Done → IfSome (I.told input.old)
-        (λ files. SaysDrawing (bytes_of files (file_of words.now)) (K.taken out.old) (K.taken out.new)) }
-    ensures refused { (flaw : Flaw) → result ≡ Status.Refused flaw → IfSome (I.told input.old)
-        (λ files. SaysFlaw (bytes_of files (file_of words.now)) flaw (K.taken out.old) (K.taken out.new)) }
+    // The end is one that the files lead to, or one of a fault, of a file of too many bytes, or of want of memory.
+    ensures ran { IfSome (words_request words.now) (λ asked. IfSome (I.told input.old)
+        (λ files. Ran (ComesTo files asked) result (K.taken out.old) (K.taken out.new))) }
 
-    // When each other end comes.
-    ensures limit { result ≡ Status.Limit Limit.Bytes → 2 ^ 62 < I.got input.new }
-    ensures within { IsJudged result → I.got input.new ≤ 2 ^ 62 }
-    ensures longer { result ≡ Status.Limit Limit.Bytes → IsLonger (I.told input.old) (file_of words.now) (2 ^ 62) }
-    ensures read { result ≡ Status.Read → Rose (I.faults input.old) (I.faults input.new) × (I.failed input.new ≡ true) }
-    ensures write { result ≡ Status.Write → Rose (K.faults out.old) (K.faults out.new) × IfSome (I.told input.old)
-        (λ files. WroteFor (bytes_of files (file_of words.now)) (K.taken out.old) (K.taken out.new)) }
+    // And where the files lead to an end, it is this one, but for those.
+    ensures exact { IfSome (words_request words.now) (λ asked. IfSome (I.told input.old)
+        (λ files. (outcome : Outcome) → ComesTo files asked outcome → IsAside result ⊎ (result ≡ outcome.0))) }
+
+    // What Done means: an accepted answer, whatever it is, bounds the crossing number of its graph from both sides.
+    ensures bounds { (graph answer : List ℕ) → words_request words.now ≡ Some (check graph answer) → result ≡ Status.Done
+        → IfSome (I.told input.old)
+        (λ files. SaysBounds (bytes_of files graph) (bytes_of files answer) (K.taken out.old) (K.taken out.new)) }
+    ensures drawing { (answer : List ℕ) → words_request words.now ≡ Some (examine answer) → result ≡ Status.Done
+        → IfSome (I.told input.old) (λ files. SaysDrawing (bytes_of files answer) (K.taken out.old) (K.taken out.new)) }
+
+    // What the input and the sink show at the end.
+    ensures shows { Shows (I.told input.old) (I.name input.new) (I.faults input.old) (I.faults input.new)
+        (I.failed input.new) (I.got input.new) result }
+    ensures begun { IfSome (words_request words.now) (λ asked. IsStarted result → IsBegun (I.told input.old) (I.name input.new) asked) }
+    ensures last { IfSome (words_request words.now) (λ asked. IsJudgedEnd result → I.name input.new ≡ Some (answer_of asked)) }
+    ensures write { result ≡ Status.Write → Rose (K.faults out.old) (K.faults out.new) }
     ensures untouched { IsSilent result → (K.taken out.new ≡ K.taken out.old) × (K.faults out.new ≡ K.faults out.old) }
 {
-    let file = match words {
-        [_, command, file] if command.as_str() == "examine" => file,
-        _ => return Status::Words,
+    accepted_bounds();
+    one_verdict();
+    let command = match read_words(alloc, words) {
+        Ok(command) => command,
+        Err(WordsErr::Refused) => return Status::Words,
+        Err(WordsErr::Memory) => return Status::Memory,
     };
-    let Ok(name) = file.clone() else {
-        return Status::Memory;
-    };
-    let text = match read_all(alloc, input, name, MAX_BYTES) {
-        Ok(text) => text,
-        Err(ReadErr::Fault) => return Status::Read,
-        Err(ReadErr::TooLong) => return Status::Limit(Limit::Bytes),
-        Err(ReadErr::Memory) => return Status::Memory,
-    };
-    let Ok((status, line)) = judge(alloc, &text) else {
-        return Status::Memory;
-    };
-    match write_all(out, &line) {
-        Ok(()) => status,
-        Err(_) => Status::Write,
+    match work(alloc, command, input) {
+        Ok((status, output)) => finish(status, &output, out),
+        Err(status) => status,
     }
 }
 
-// The end to which a text leads, and the line that is written.
-fn judge(alloc: Global, text: &[u8]) -> Result<(Status, Vec<u8>), AllocError>
-    ensures { IfOk result (λ x. EndsWith text.now x.0 x.1.items) }
+// The end that a command comes to and the bytes that belong to it, or an earlier end.
+fn work<I: Input>(
+    alloc: Global,
+    command: Command,
+    input: &mut I,
+) -> Result<(Status, Vec<u8>), Status>
+    ensures comes { IfOk result (λ x. IfSome (I.told input.old)
+        (λ files. ComesTo files (request_of_command command) (x.0, x.1.items))) }
+    ensures judged { IfOk result (λ x. IsVerdictEnd x.0) }
+    ensures quits { IfErr result (λ end. IfSome (I.told input.old)
+        (λ files. Quits (ComesTo files (request_of_command command)) end)) }
+    ensures early { IfErr result IsEarly }
+    ensures fine { IfOk result (λ x. IsFine (I.failed input.new) (I.got input.new)) }
+    ensures shows { IfErr result (Shows (I.told input.old) (I.name input.new) (I.faults input.old) (I.faults input.new)
+        (I.failed input.new) (I.got input.new)) }
+    ensures begun { IsBegun (I.told input.old) (I.name input.new) (request_of_command command) }
+    ensures last { IfOk result (λ x. I.name input.new ≡ Some (answer_of (request_of_command command))) }
 {
-    match examine_text(alloc, text) {
-        Ok(seen) => Ok((Status::Done, seen_line(alloc, &seen)?)),
-        Err(AnswerErr::Refused(flaw)) => Ok((Status::Refused(flaw), write_flaw(alloc, &flaw)?)),
-        Err(AnswerErr::Memory) => Err(AllocError),
+    match command {
+        Command::Examine { answer } => {
+            let text = read_file(alloc, input, answer)?;
+            Ok(examined(alloc, &text)?)
+        }
+        Command::Check { graph, answer } => {
+            let (read, text) = read_both(alloc, input, graph, answer)?;
+            Ok(checked(alloc, &read, &text)?)
+        }
+        Command::Draw { graph, answer } => {
+            let (read, text) = read_both(alloc, input, graph, answer)?;
+            Ok(drawn(alloc, &read, &text)?)
+        }
+    }
+}
+
+// Writes the bytes that belong to an end.
+fn finish<K: Sink>(status: Status, output: &[u8], out: &mut K) -> Status
+    ensures finishes { Finishes status output.now (K.taken out.old) (K.taken out.new) (K.faults out.old) (K.faults out.new) result }
+{
+    match write_all(out, output) {
+        Ok(()) => status,
+        Err(_) => Status::Write,
     }
 }

@@ -1,4 +1,4 @@
-// Texts of answers.
+// Texts of graphs and of answers.
 
 /// The drawing of K4.
 pub const K4: &str = "crossing-answer 1\n\
@@ -183,3 +183,47 @@ pub const EMPTY: &str = "crossing-answer 1\n\
     tree\n\
     leaf 1 0\n\
     end\n";
+
+/// The graph K5.
+pub const K5_GRAPH: &str = "graph [ \
+    node [ id 0 ] \
+    node [ id 1 ] \
+    node [ id 2 ] \
+    node [ id 3 ] \
+    node [ id 4 ] \
+    edge [ source 0 target 1 ] \
+    edge [ source 0 target 2 ] \
+    edge [ source 0 target 3 ] \
+    edge [ source 0 target 4 ] \
+    edge [ source 1 target 2 ] \
+    edge [ source 1 target 3 ] \
+    edge [ source 1 target 4 ] \
+    edge [ source 2 target 3 ] \
+    edge [ source 2 target 4 ] \
+    edge [ source 3 target 4 ] \
+    ]";
+
+/// K5 with two far edges.
+pub const K5_AND_TWO_GRAPH: &str = "graph [ \
+    node [ id 0 ] \
+    node [ id 1 ] \
+    node [ id 2 ] \
+    node [ id 3 ] \
+    node [ id 4 ] \
+    node [ id 5 ] \
+    node [ id 6 ] \
+    node [ id 7 ] \
+    node [ id 8 ] \
+    edge [ source 0 target 1 ] \
+    edge [ source 0 target 2 ] \
+    edge [ source 0 target 3 ] \
+    edge [ source 0 target 4 ] \
+    edge [ source 1 target 2 ] \
+    edge [ source 1 target 3 ] \
+    edge [ source 1 target 4 ] \
+    edge [ source 2 target 3 ] \
+    edge [ source 2 target 4 ] \
+    edge [ source 3 target 4 ] \
+    edge [ source 5 target 6 ] \
+    edge [ source 7 target 8 ] \
+    ]";

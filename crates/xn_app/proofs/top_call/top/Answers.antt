@@ -1,31 +1,66 @@
-use Rattle.std.proofs.Common.{ℕ, List, rules}
-use Rattle.std.specs.Io.KnownBytes.{Appends}
-use Rattle.xn_io.specs.Input.{AreAllOf}
-use Rattle.xn_app.specs.Command.{file_of}
-use Rattle.xn_app.specs.Ends.{EndsWith, SaysDrawing, SaysFlaw}
-use Rattle.xn_app.proofs.Ends.{of_told, done, refused}
+use Rattle.std.proofs.Common.{◌≡◌, ◌⊎◌, IfSome, rules}
+use Rattle.xn_words.specs.Gives.{request_of_command, words_request}
+use Rattle.xn_words.specs.Request.{check, examine}
+use Rattle.xn_app.specs.Ends.{Finishes}
+use Rattle.xn_app.specs.Outcome.{ComesTo, Outcome}
+use Rattle.xn_app.specs.Status.{IsAside, IsVerdictEnd}
+use Rattle.xn_app.proofs.Ends.{asked_is, asked_same, never_words, ran_on}
+use Rattle.xn_app.proofs.OneOutcome.{exact_told}
+use Rattle.xn_app.proofs.Outcomes.{checked_done, examined_done}
 use Rattle.xn_app.proofs.top_call.top.Goals as goal
 
-pub returns-in-Ok-write_all-clause-done : goal.returns-in-Ok-write_all-clause-done
-returns-in-Ok-write_all-clause-done g c =
-    λ is_done.
+pub returns-in-Ok-work-clause-exact : goal.returns-in-Ok-work-clause-exact
+returns-in-Ok-work-clause-exact g c =
+    let told = g.I.Input.told c.args.input.now in
+    let r = request_of_command c.in-Ok.command in
     let old = g.K.Sink.taken c.args.out.now in
-    let new = g.K.Sink.taken c.write_all.new.sink in
-    let text = c.in-Ok-read_all.text.items in
-    let line = c.in-Ok-judge.line.items in
-    let read : AreAllOf (g.I.Input.told c.args.input.now) (file_of c.args.words.now) text = search rules in
-    let ends : EndsWith text c.in-Ok-judge.status line = search rules in
-    let written : Appends old new line = search rules in
-    of_told (g.I.Input.told c.args.input.now) (file_of c.args.words.now) text (λ (t : List ℕ). SaysDrawing t old new) read (done text c.in-Ok-judge.status line old new ends is_done written)
+    let new = g.K.Sink.taken c.finish.new.out in
+    let before = g.K.Sink.faults c.args.out.now in
+    let after = g.K.Sink.faults c.finish.new.out in
+    let status = c.in-Ok-work.status in
+    let output = c.in-Ok-work.output.items in
+    let end = c.finish.result in
+    let judged : IsVerdictEnd status = search rules in
+    let finishes : Finishes status output old new before after end = search rules in
+    let comes : IfSome told (λ files. ComesTo files r (status, output)) = search rules in
+    let ran = ran_on told r status output old new before after end judged finishes comes in
+    let spoken = never_words status output old new before after end judged finishes in
+    let laws = c.one_verdict.ensures in
+    asked_is (words_request c.args.words.now) r (λ asked. IfSome told (λ files. (outcome : Outcome) → ComesTo files asked outcome → IsAside end ⊎ (end ≡ outcome.0)))
+    c.in-Ok.ensures (exact_told laws.whole laws.drawing told r end old new spoken ran)
 
-pub returns-in-Ok-write_all-clause-refused : goal.returns-in-Ok-write_all-clause-refused
-returns-in-Ok-write_all-clause-refused g c =
-    λ flaw is_refused.
+pub returns-in-Ok-work-clause-bounds : goal.returns-in-Ok-work-clause-bounds
+returns-in-Ok-work-clause-bounds g c =
+    λ graph answer asks done.
+    let told = g.I.Input.told c.args.input.now in
+    let r = request_of_command c.in-Ok.command in
     let old = g.K.Sink.taken c.args.out.now in
-    let new = g.K.Sink.taken c.write_all.new.sink in
-    let text = c.in-Ok-read_all.text.items in
-    let line = c.in-Ok-judge.line.items in
-    let read : AreAllOf (g.I.Input.told c.args.input.now) (file_of c.args.words.now) text = search rules in
-    let ends : EndsWith text c.in-Ok-judge.status line = search rules in
-    let written : Appends old new line = search rules in
-    of_told (g.I.Input.told c.args.input.now) (file_of c.args.words.now) text (λ (t : List ℕ). SaysFlaw t flaw old new) read (refused text c.in-Ok-judge.status line flaw old new ends is_refused written)
+    let new = g.K.Sink.taken c.finish.new.out in
+    let before = g.K.Sink.faults c.args.out.now in
+    let after = g.K.Sink.faults c.finish.new.out in
+    let status = c.in-Ok-work.status in
+    let output = c.in-Ok-work.output.items in
+    let end = c.finish.result in
+    let judged : IsVerdictEnd status = search rules in
+    let finishes : Finishes status output old new before after end = search rules in
+    let comes : IfSome told (λ files. ComesTo files r (status, output)) = search rules in
+    let ran = ran_on told r status output old new before after end judged finishes comes in
+    checked_done c.accepted_bounds.ensures told graph answer r end old new (asked_same (words_request c.args.words.now) r (check graph answer) c.in-Ok.ensures asks) done ran
+
+pub returns-in-Ok-work-clause-drawing : goal.returns-in-Ok-work-clause-drawing
+returns-in-Ok-work-clause-drawing g c =
+    λ answer asks done.
+    let told = g.I.Input.told c.args.input.now in
+    let r = request_of_command c.in-Ok.command in
+    let old = g.K.Sink.taken c.args.out.now in
+    let new = g.K.Sink.taken c.finish.new.out in
+    let before = g.K.Sink.faults c.args.out.now in
+    let after = g.K.Sink.faults c.finish.new.out in
+    let status = c.in-Ok-work.status in
+    let output = c.in-Ok-work.output.items in
+    let end = c.finish.result in
+    let judged : IsVerdictEnd status = search rules in
+    let finishes : Finishes status output old new before after end = search rules in
+    let comes : IfSome told (λ files. ComesTo files r (status, output)) = search rules in
+    let ran = ran_on told r status output old new before after end judged finishes comes in
+    examined_done told answer r end old new (asked_same (words_request c.args.words.now) r (examine answer) c.in-Ok.ensures asks) done ran

@@ -1,0 +1,60 @@
+-- What a command comes to: its end, and the bytes that belong to it.
+use Rattle.std.specs.Prelude.{◌≡◌, ℕ, List, [], Result, Ok, Err}
+use Rattle.std.specs.Map.{keys_of}
+use Rattle.xn_check.specs.Verdict as checking
+use Rattle.xn_gml.specs.Meaning.{Found, graph_of_text}
+use Rattle.xn_gml.specs.declared.errors.GmlErr.{GmlErr}
+use Rattle.xn_gml.specs.declared.errors.GmlErr.TheVariants as gml
+use Rattle.xn_io.specs.Input.{Files, bytes_of}
+use Rattle.xn_kinds.specs.declared.flaws.Flaw.{Flaw}
+use Rattle.xn_proof.specs.Refusal.{flaw_line}
+use Rattle.xn_show.specs.Text.{show_text}
+use Rattle.xn_words.specs.Request.{Request, check, draw, examine}
+use Rattle.xn_app.specs.Output.{accepted_line, seen_line}
+use Rattle.xn_app.specs.Verdict.{Verdict}
+use Rattle.xn_app.specs.declared.status.Limit.TheVariants.{Edges, Nodes}
+use Rattle.xn_app.specs.declared.status.Status.{Status}
+use Rattle.xn_app.specs.declared.status.Status.TheVariants.{Done, Graph, Limit, Memory, Refused}
+
+-- an end, and the bytes that belong to it
+abbrev pub Outcome : Type 0
+Outcome = Status × List ℕ
+
+-- what is accepted is told by a text, and a flaw by its line
+abbrev pub outcome_of : {V : Type 0} → (V → List ℕ) → Result V Flaw → Outcome
+outcome_of text (Ok v) = (Done, text v)
+outcome_of text (Err flaw) = (Refused flaw, flaw_line flaw)
+
+-- an answer has a verdict, which leads to this
+pub record IsJudged {V : Type 0} (HasVerdict : Result V Flaw → Type 0) (text : V → List ℕ) (outcome : Outcome) : Type 0 where
+  pub verdict : Result V Flaw
+  pub holds : HasVerdict verdict
+  pub outcome_is : outcome ≡ outcome_of text verdict
+
+-- the end where a text has no graph
+abbrev pub refused_graph : GmlErr → Status
+refused_graph gml.TooManyNodes = Limit Nodes
+refused_graph gml.TooManyEdges = Limit Edges
+refused_graph gml.Memory = Memory
+refused_graph e = Graph e
+
+-- the rest where the text has a graph; else nothing is written
+abbrev pub OnGraph : Result Found GmlErr → (Found → Outcome → Type 0) → Outcome → Type 0
+OnGraph (Ok found) Rest outcome = Rest found outcome
+OnGraph (Err e) Rest outcome = outcome ≡ (refused_graph e, [])
+
+-- what the text of an answer comes to by itself, where a graph was read, and where it is to be shown
+abbrev pub Examined : List ℕ → Outcome → Type 0
+Examined text outcome = IsJudged (Verdict text) seen_line outcome
+
+abbrev pub Checked : List ℕ → Found → Outcome → Type 0
+Checked text found outcome = IsJudged (checking.Verdict found.graph found.loops text) accepted_line outcome
+
+abbrev pub Drawn : List ℕ → Found → Outcome → Type 0
+Drawn text found outcome = IsJudged (checking.DrawVerdict found.graph found.loops text) (show_text found.graph (keys_of found.ids)) outcome
+
+-- what is asked comes to this, with these files
+abbrev pub ComesTo : Files → Request → Outcome → Type 0
+ComesTo files (examine answer) outcome = Examined (bytes_of files answer) outcome
+ComesTo files (check graph answer) outcome = OnGraph (graph_of_text (bytes_of files graph)) (Checked (bytes_of files answer)) outcome
+ComesTo files (draw graph answer) outcome = OnGraph (graph_of_text (bytes_of files graph)) (Drawn (bytes_of files answer)) outcome
