@@ -3,6 +3,7 @@ use Rattle.std.proofs.Common.{◌≡◌, ◌⊎◌, ℕ, inl, inr, List, Option,
 use Rattle.xn_check.specs.Laws.{OneDrawVerdict, OneVerdict}
 use Rattle.xn_check.specs.Verdict as checking
 use Rattle.xn_gml.specs.Meaning.{Found, graph_of_text}
+use Rattle.xn_gml.specs.declared.errors.GmlErr.{GmlErr}
 use Rattle.xn_io.specs.Input.{Files, bytes_of}
 use Rattle.xn_kinds.specs.declared.flaws.Flaw.{Flaw}
 use Rattle.xn_words.specs.Request.{Request, check, draw, examine}
@@ -13,7 +14,6 @@ use Rattle.xn_app.specs.Verdict.{Verdict}
 use Rattle.xn_app.specs.declared.status.Limit.TheVariants.{Bytes, Edges, Nodes}
 use Rattle.xn_app.specs.declared.status.Status.{Status}
 use Rattle.xn_app.specs.declared.status.Status.TheVariants.{Done, Refused, Words, Graph, Limit, Read, Write, Memory}
-use Rattle.xn_app.proofs.Graphs.{graph_is}
 use Rattle.xn_app.proofs.OneVerdict.{one_verdict}
 
 -- one verdict leads to one outcome
@@ -22,24 +22,24 @@ one_judged HasVerdict text one x y first second =
     first.outcome_is ∙ ap (outcome_of text) (one first.verdict second.verdict first.holds second.holds) ∙ sym second.outcome_is
 
 module _ (check_law : OneVerdict) (draw_law : OneDrawVerdict) where
-  one_on : (Rest : Found → Outcome → Type 0) (graph_text : List ℕ) → ((found : Found) → graph_of_text graph_text ≡ Ok found → (x y : Outcome) → Rest found x → Rest found y → x ≡ y) →
-      (read : Result Found _) → graph_of_text graph_text ≡ read → (x y : Outcome) → OnGraph read Rest x → OnGraph read Rest y → x ≡ y
-  one_on Rest graph_text one (Ok found) is x y first second = one found is x y first second
-  one_on Rest graph_text one (Err e) is x y first second = first ∙ sym second
+  one_on : (Rest : Found → Outcome → Type 0) → ((found : Found) (x y : Outcome) → Rest found x → Rest found y → x ≡ y) →
+      (read : Result Found GmlErr) (x y : Outcome) → OnGraph read Rest x → OnGraph read Rest y → x ≡ y
+  one_on Rest one (Ok found) x y first second = one found x y first second
+  one_on Rest one (Err e) x y first second = first ∙ sym second
 
   pub one_outcome : (files : Files) (asked : Request) (x y : Outcome) → ComesTo files asked x → ComesTo files asked y → x ≡ y
   one_outcome files (examine answer) x y first second =
       one_judged (Verdict (bytes_of files answer)) _ (one_verdict (bytes_of files answer)) x y first second
   one_outcome files (check graph answer) x y first second =
       let text = bytes_of files answer in
-      one_on (Checked text) (bytes_of files graph)
-      (λ found is x y a b. one_judged (checking.Verdict found.graph found.loops text) _ (λ v w p q. check_law found.graph found.loops text v w (graph_is (bytes_of files graph) found is) p q) x y a b)
-      (graph_of_text (bytes_of files graph)) refl x y first second
+      one_on (Checked text)
+      (λ found x y a b. one_judged (checking.Verdict found.graph found.loops text) _ (check_law found.graph found.loops text) x y a b)
+      (graph_of_text (bytes_of files graph)) x y first second
   one_outcome files (draw graph answer) x y first second =
       let text = bytes_of files answer in
-      one_on (Drawn text) (bytes_of files graph)
-      (λ found is x y a b. one_judged (checking.DrawVerdict found.graph found.loops text) _ (λ v w p q. draw_law found.graph found.loops text v w (graph_is (bytes_of files graph) found is) p q) x y a b)
-      (graph_of_text (bytes_of files graph)) refl x y first second
+      one_on (Drawn text)
+      (λ found x y a b. one_judged (checking.DrawVerdict found.graph found.loops text) _ (draw_law found.graph found.loops text) x y a b)
+      (graph_of_text (bytes_of files graph)) x y first second
 
 -- the end is that of the outcome
 same_end : (Comes : Outcome → Type 0) (end : Status) (old new : Option (List ℕ)) (outcome : Outcome) → ((x y : Outcome) → Comes x → Comes y → x ≡ y) → Wrote Comes end old new → Comes outcome → IsAside end ⊎ (end ≡ outcome.0)
