@@ -1,36 +1,13 @@
 -- What an end says of the files, and of what was written.
-use Rattle.std.proofs.Common.{◌≡◌, ℕ, inl, inr, List, [], Option, None, Some, IfSome, sym, subst, ◌∙◌}
+use Rattle.std.proofs.Common.{◌≡◌, ℕ, inl, inr, List, Option, None, Some, IfSome, sym, subst, ◌∙◌}
 use Rattle.std.specs.Io.KnownBytes.{Appends}
-use Rattle.std.proofs.KnownBytes.{Appends-nil}
-use Rattle.xn_io.specs.Causes.{Rose}
 use Rattle.xn_io.specs.Input.{Files}
 use Rattle.xn_words.specs.Request.{Request}
-use Rattle.xn_app.specs.Ends.{Finishes, Quits, Ran, Wrote}
+use Rattle.xn_app.specs.Ends.{Finishes, Ran}
 use Rattle.xn_app.specs.Outcome.{ComesTo, Outcome}
-use Rattle.xn_app.specs.Status.{IsEarly, IsVerdictEnd}
-use Rattle.xn_app.specs.declared.status.Limit.TheVariants.{Bytes, Edges, Nodes}
+use Rattle.xn_app.specs.Status.{IsVerdictEnd}
 use Rattle.xn_app.specs.declared.status.Status.{Status}
 use Rattle.xn_app.specs.declared.status.Status.TheVariants.{Done, Refused, Words, Graph, Limit, Read, Write, Memory}
-
--- ---- no bytes belong to an early end
-
-wrote_nothing : (Comes : Outcome → Type 0) (end : Status) (old : Option (List ℕ)) → Comes (end, []) → Wrote Comes end old old
-wrote_nothing Comes end old comes = record { output = []; comes = comes; written = Appends-nil old }
-
-pub quit : (Comes : Outcome → Type 0) (end : Status) (old : Option (List ℕ)) → IsEarly end → Quits Comes end → Ran Comes end old old
-quit Comes (Graph e) old early (inl reading) = absurd reading
-quit Comes (Graph e) old early (inr comes) = wrote_nothing Comes (Graph e) old comes
-quit Comes (Limit Nodes) old early (inl reading) = absurd reading
-quit Comes (Limit Nodes) old early (inr comes) = wrote_nothing Comes (Limit Nodes) old comes
-quit Comes (Limit Edges) old early (inl reading) = absurd reading
-quit Comes (Limit Edges) old early (inr comes) = wrote_nothing Comes (Limit Edges) old comes
-quit Comes (Limit Bytes) old early quits = tt
-quit Comes Read old early quits = tt
-quit Comes Memory old early quits = tt
-quit Comes Done old early quits = absurd early
-quit Comes (Refused flaw) old early quits = absurd early
-quit Comes Words old early quits = absurd early
-quit Comes Write old early quits = absurd early
 
 -- ---- the bytes of a judged end
 
@@ -49,11 +26,6 @@ finished Comes end output old new before after result judged comes (inl all) =
     subst (λ s. Ran Comes s old new) (sym all.0) (wrote_all Comes end output old new judged comes all.1)
 finished Comes end output old new before after result judged comes (inr part) =
     subst (λ s. Ran Comes s old new) (sym part.0) (record { outcome = (end, output); comes = comes; written = part.1 })
-
--- the end is a fault of the sink only where its count rose
-pub rose_at_write : (end : Status) (output : List ℕ) (old new : Option (List ℕ)) (before after : ℕ) (result : Status) → IsVerdictEnd end → Finishes end output old new before after result → result ≡ Write → Rose before after
-rose_at_write end output old new before after result judged (inl all) write = absurd (subst IsVerdictEnd (sym all.0 ∙ write) judged)
-rose_at_write end output old new before after result judged (inr part) write = part.2
 
 -- a judged end isn't one of the words
 pub never_words : (end : Status) (output : List ℕ) (old new : Option (List ℕ)) (before after : ℕ) (result : Status) → IsVerdictEnd end → Finishes end output old new before after result → result ≡ Words → ⊥

@@ -3,5 +3,4 @@ pub mod Graphs
 pub mod OneOutcome
 pub mod OneVerdict
 pub mod Outcomes
-pub mod ReadFiles
 pub mod Verdicts

@@ -1,13 +1,9 @@
 -- The verdict in the words of the answer.
-use Rattle.std.proofs.Common.{◌≡◌, ℕ, inl, inr, List, length, Result, Ok, Err, refl, sym, ap, subst, ◌∙◌}
+use Rattle.std.proofs.Common.{◌≡◌, ℕ, List, length, Result, Ok, Err, refl, sym, ap, subst, ◌∙◌}
 use Rattle.xn_draw.specs.Seen.{IsSeen}
 use Rattle.xn_draw.specs.declared.results.Seen.{Seen}
-use Rattle.xn_draw.proofs.Excluded.{no_flaw}
-use Rattle.xn_graph.specs.Limits.{IsLimitedGraph}
 use Rattle.xn_kinds.specs.declared.answers.Answer.{Answer}
 use Rattle.xn_kinds.specs.declared.flaws.Flaw.{Flaw}
-use Rattle.xn_kinds.specs.declared.flaws.FlawKind.{FlawKind}
-use Rattle.xn_kinds.specs.declared.flaws.FlawKind.TheVariants.{Syntax, Number, Loop, SizeDiffers, GraphDiffers, Draw, Count, Row, TreeShape, Weak, Trailing}
 use Rattle.xn_kinds.specs.declared.rows.Row as row
 use Rattle.xn_kinds.specs.declared.trees.Node.{Node}
 use Rattle.xn_proof.specs.declared.front.Front.{Front}
@@ -16,7 +12,8 @@ use Rattle.xn_proof.specs.Proofs.{answer_of, proof_at}
 use Rattle.xn_proof.specs.Reading.{◌>>=◌, Left}
 use Rattle.xn_proof.proofs.AnswerTexts.{answer_takes, spelled_is_read}
 use Rattle.xn_proof.proofs.Steps.{bind_ok, ok_is}
-use Rattle.xn_app.specs.Verdict.{AfterDrawn, AfterFront, DrawnFails, HasProof, IsDrawn, SpellsDrawing, Verdict}
+use Rattle.xn_app.specs.Verdict.{AfterFront, HasProof, IsDrawn, SpellsDrawing, Verdict}
+use Rattle.xn_app.proofs.OneVerdict.{one_verdict}
 
 -- an answer of a front and a proof
 abbrev made : Front → List row.Row × List Node → Answer
@@ -42,7 +39,6 @@ record PartsRead (text : List ℕ) (seen : Seen) : Type 0 where
   front_read : front_at (1, text) ≡ Ok (front, left)
   drawn : IsDrawn front seen
   proof : HasProof front left
-  limited : IsLimitedGraph front.graph
 
 parts_read : (text : List ℕ) (seen : Seen) → SpellsDrawing text seen → PartsRead text seen
 unfolding answer_of
@@ -59,7 +55,6 @@ parts_read text seen h =
       front_read = f.1;
       drawn = record { is_seen = is_seen; count = count };
       proof = (p.0, p.1);
-      limited = subst (λ (a : Answer). IsLimitedGraph a.graph) (sym same) h.well_formed.graph;
     }
 
 pub spelled_are_seen : (text : List ℕ) (seen : Seen) → SpellsDrawing text seen → Verdict text (Ok seen)
@@ -67,31 +62,7 @@ spelled_are_seen text seen h =
     let parts = parts_read text seen h in
     subst (λ r. AfterFront r (Ok seen)) (sym parts.front_read) (parts.drawn, parts.proof)
 
--- a drawing with its number of crossings doesn't fail
-drawn_stands : (f : Front) (seen : Seen) (kind : FlawKind) → IsLimitedGraph f.graph → IsDrawn f seen → DrawnFails f kind → ⊥
-drawn_stands f seen (Draw flaw) limited drawn fails = no_flaw f.graph f.drawing.orders f.drawing.next drawn.is_seen.0 flaw fails
-drawn_stands f seen (Count said counted) limited drawn fails =
-    fails.differ (fails.said_is ∙ drawn.count ∙ ap (λ s. s.crossings) drawn.is_seen.1 ∙ sym fails.counted_is)
-drawn_stands f seen Syntax limited drawn fails = fails
-drawn_stands f seen Number limited drawn fails = fails
-drawn_stands f seen (Loop e) limited drawn fails = fails
-drawn_stands f seen SizeDiffers limited drawn fails = fails
-drawn_stands f seen (GraphDiffers e) limited drawn fails = fails
-drawn_stands f seen (Row i flaw) limited drawn fails = fails
-drawn_stands f seen (TreeShape n) limited drawn fails = fails
-drawn_stands f seen (Weak bound need) limited drawn fails = fails
-drawn_stands f seen Trailing limited drawn fails = fails
-
-differ : (p : List row.Row × List Node) (flaw : Flaw) → Path (Result (List row.Row × List Node) Flaw) (Ok p) (Err flaw) → ⊥
-differ p flaw e = absurd cc
-
-not_refused : (f : Front) (left : Left) (seen : Seen) (flaw : Flaw) → IsLimitedGraph f.graph → IsDrawn f seen → HasProof f left → AfterDrawn f left (Err flaw) → ⊥
-not_refused f left seen flaw limited drawn proof refused = elim refused [
-  | inl here ↦ drawn_stands f seen flaw.kind limited drawn here.1
-  | inr behind ↦ differ proof.0 flaw (sym proof.1 ∙ behind.1)
-]
-
 pub drawings_are_taken : (text : List ℕ) (seen : Seen) (flaw : Flaw) → SpellsDrawing text seen → Verdict text (Err flaw) → ⊥
 drawings_are_taken text seen flaw h verdict =
-    let parts = parts_read text seen h in
-    not_refused parts.front parts.left seen flaw parts.limited parts.drawn parts.proof (subst (λ r. AfterFront r (Err flaw)) parts.front_read verdict)
+    let e : Path (Result Seen Flaw) (Ok seen) (Err flaw) = one_verdict text (Ok seen) (Err flaw) (spelled_are_seen text seen h) verdict in
+    absurd cc

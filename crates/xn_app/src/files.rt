@@ -48,8 +48,10 @@ pub fn read_both<I: Input>(
     ensures begun { IsOneBegun (I.told input.old) (I.name input.new) (string_bytes graph) (string_bytes answer) }
     ensures last { IfOk result (λ x. I.name input.new ≡ Some (string_bytes answer)) }
 {
-    let graph_text = read_file(alloc, input, graph)?;
-    let read = read_graph(alloc, &graph_text)?;
+    let read = {
+        let graph_text = read_file(alloc, input, graph)?;
+        read_graph(alloc, &graph_text)?
+    };
     let text = read_file(alloc, input, answer)?;
     Ok((read, text))
 }
