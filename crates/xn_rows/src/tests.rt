@@ -1,3 +1,4 @@
+//! Stated rows, over K5 and two far edges: those that hold, and the first flaws of others.
 ghost use Rattle.std.specs.Prelude.{IsTrue};
 ghost use Rattle.xn_rows.specs.Holding.{HasPaths, HasSizes};
 
@@ -7,6 +8,10 @@ use std::test::Fail;
 use xn_graph::Graph;
 use xn_kinds::{Evidence, EvidenceFlaw, Orders, Paths, Row, RowFlaw};
 use xn_list::Sequence;
+
+mod leaves;
+mod states;
+mod walks;
 
 /// The edges of K5, and two that share no node with another.
 const ENDS: [(u32, u32); 12] = [
@@ -77,6 +82,20 @@ fn has_paths(evidence: &Evidence) -> bool
     }
 }
 
+/// The row of the edges below a number, with these crossings.
+fn row(
+    alloc: Global,
+    edges: u32,
+    pairs: &[(u32, u32)],
+    evidence: Evidence,
+) -> Result<Row, AllocError> {
+    Ok(Row {
+        edges: Sequence::new((0..edges).collect(alloc)?),
+        orders: orders(alloc, edges, pairs)?,
+        evidence,
+    })
+}
+
 /// What is answered of the row of the edges below a number, with these crossings.
 fn judged(
     alloc: Global,
@@ -85,11 +104,7 @@ fn judged(
     evidence: Evidence,
 ) -> Result<Result<(), RowErr>, Fail> {
     let graph = Graph::make(9, Vec::from_slice(alloc, &ENDS)?)?;
-    let row = Row {
-        edges: Sequence::new((0..edges).collect(alloc)?),
-        orders: orders(alloc, edges, pairs)?,
-        evidence,
-    };
+    let row = row(alloc, edges, pairs, evidence)?;
     if !has_sizes(&row) {
         return Err("a row of other sizes")?;
     }
