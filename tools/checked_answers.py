@@ -5,7 +5,7 @@
 |---|---|---|
 | k6 | six rows over K5 and one leaf | 3 3 |
 | petersen | ten rows over the graph without one node, and one leaf | 2 2 |
-| searched | K6 by a plain search with no linear program: some 4,300 nodes and 200 rows, most with planted crossings | 3 3 |
+| searched | K6 by a plain search with no linear program: some 4,300 nodes, and 250 rows, most with planted crossings, of which the last serve no leaf | 3 3 |
 | k34 | K3,4 by the same search: some 600 nodes | 2 2 |
 | large | K6 with 1,000 rows and 100,000 leaves of 10 parts: some 20 MB | 3 3 |
 
@@ -407,6 +407,7 @@ def make(name):
         return PETERSEN, 2, 2, rows, [leaf_line(6, [(r, 1) for r in range(10)])]
     if name == "searched":
         rows, tree = search(K6, 3, generator, 4)
+        rows += [some_row(K6, planted_at_random(K6[1], generator), generator) for _ in range(250 - len(rows))]
         return K6, 3, 3, rows, tree
     if name == "k34":
         rows, tree = search(K34, 2, generator, 4)
