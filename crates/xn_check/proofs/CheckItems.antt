@@ -1,15 +1,10 @@
 -- What the items of an answer have to mean: those up to `drawn`, those of rows, those of the tree.
 use Rattle.std.proofs.Common.{◌≡◌, ℕ, List, [], ◌∷◌, ◌++◌, map, refl, sym, subst, ap, ◌∙◌}
-use Rattle.std.specs.List.{flat_map}
 use Rattle.xn_model.specs.Graph.{Graph}
 use Rattle.xn_kinds.specs.State.{State}
 use Rattle.xn_kinds.specs.Tree.{Finishes, Keeps, children}
-use Rattle.xn_kinds.specs.declared.rows.Evidence.{Evidence}
-use Rattle.xn_kinds.specs.declared.rows.Evidence.TheVariants.{Five, ThreeThree, Extension}
 use Rattle.xn_kinds.specs.declared.rows.Row.{Row}
 use Rattle.xn_kinds.specs.declared.trees.Node.{Node}
-use Rattle.xn_proof.specs.Forms.{evidence_items, row_items, rows_items}
-use Rattle.xn_proof.specs.Spelling.{overs_of}
 use Rattle.xn_proof.specs.declared.item.Item.{Item}
 use Rattle.xn_proof.specs.declared.item.Item.TheVariants as item
 use Rattle.xn_rows.specs.Walk.{after}
@@ -20,62 +15,9 @@ use Rattle.xn_check.specs.RowsSaid.{rows_said}
 use Rattle.xn_check.specs.Said.{Said, said}
 use Rattle.xn_check.specs.Verdict.{check_rules, draw_rules}
 use Rattle.xn_check.proofs.Checked.{front_agrees}
+use Rattle.xn_check.proofs.ItemKinds.{Each, IsFront, IsOfRows}
 use Rattle.xn_check.proofs.Items.{AllAgree, agree_head, agree_tail, all_said}
 use Rattle.xn_check.proofs.RowItems.{RowAgrees, row_rules}
-
--- ---- which items
-
-abbrev pub IsFront : Item → Type 0
-IsFront (item.Rows n) = ⊥
-IsFront (item.Row n) = ⊥
-IsFront (item.Over e list) = ⊥
-IsFront (item.Branch branch) = ⊥
-IsFront (item.Path path) = ⊥
-IsFront (item.Extension list) = ⊥
-IsFront item.Tree = ⊥
-IsFront (item.Step node) = ⊥
-IsFront item.End = ⊥
-IsFront line = Unit {0}
-
-abbrev pub IsOfRows : Item → Type 0
-IsOfRows (item.Rows n) = Unit {0}
-IsOfRows (item.Row n) = Unit {0}
-IsOfRows (item.Over e list) = Unit {0}
-IsOfRows (item.Branch branch) = Unit {0}
-IsOfRows (item.Path path) = Unit {0}
-IsOfRows (item.Extension list) = Unit {0}
-IsOfRows line = ⊥
-
-abbrev pub Each : (Item → Type 0) → List Item → Type 0
-Each P [] = Unit {0}
-Each P (x ∷ xs) = P x × Each P xs
-
-pub each_join : (P : Item → Type 0) (xs ys : List Item) → Each P xs → Each P ys → Each P (xs ++ ys)
-each_join P [] ys first second = second
-each_join P (x ∷ xs) ys first second = (first.0, each_join P xs ys first.1 second)
-
-pub each_map : {X : Type 0} (P : Item → Type 0) (say : X → Item) → ((x : X) → P (say x)) → (xs : List X) → Each P (map say xs)
-each_map P say each [] = tt
-each_map P say each (x ∷ xs) = (each x, each_map P say each xs)
-
-evidence_each : (e : Evidence) → Each IsOfRows (evidence_items e)
-evidence_each (Five branch paths) = (tt, each_map IsOfRows (λ p. item.Path p) (λ p. tt) paths)
-evidence_each (ThreeThree branch paths) = (tt, each_map IsOfRows (λ p. item.Path p) (λ p. tt) paths)
-evidence_each (Extension list) = (tt, tt)
-
-row_each : (row : Row) → Each IsOfRows (row_items row)
-row_each row = (
-  tt,
-  each_join IsOfRows (map (λ o. item.Over o.0 o.1) (overs_of row.edges row.orders)) (evidence_items row.evidence)
-      (each_map IsOfRows (λ o. item.Over o.0 o.1) (λ o. tt) (overs_of row.edges row.orders)) (evidence_each row.evidence),
-)
-
-flat_each : (rows : List Row) → Each IsOfRows (flat_map row_items rows)
-flat_each [] = tt
-flat_each (row ∷ rows) = each_join IsOfRows (row_items row) (flat_map row_items rows) (row_each row) (flat_each rows)
-
-pub rows_each : (rows : List Row) → Each IsOfRows (rows_items rows)
-rows_each rows = (tt, flat_each rows)
 
 module _ (g : Graph) (loops : ℕ) where
   abbrev R : Rules Said (ℕ × ℕ)

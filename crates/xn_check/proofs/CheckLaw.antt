@@ -16,9 +16,10 @@ use Rattle.xn_check.specs.Laws.{AcceptedWhereSpelled, SpellsProof}
 use Rattle.xn_check.specs.RowsSaid.{RowsSaid, no_rows}
 use Rattle.xn_check.specs.Said.{Said, nothing_said}
 use Rattle.xn_check.specs.Verdict.{Verdict, check_rules, draw_rules}
-use Rattle.xn_check.proofs.CheckItems.{Each, IsFront, all_front, all_of_rows, each_join, each_map, front_of_agree, front_of_said, rows_each, tree_kept, tree_shows}
-use Rattle.xn_check.proofs.DrawItems.{all_passed, proof_pass}
+use Rattle.xn_check.proofs.CheckItems.{all_front, all_of_rows, front_of_agree, front_of_said, tree_kept, tree_shows}
+use Rattle.xn_check.proofs.DrawItems.{all_passed}
 use Rattle.xn_check.proofs.DrawLaw.{IsFor, after_drawing, all_agree, is_for, said_last}
+use Rattle.xn_check.proofs.ItemKinds.{Each, IsFront, each_join, each_map, proof_passes, rows_each}
 use Rattle.xn_check.proofs.Items.{AllAgree, agree_first, agree_join, agree_rest, agree_tail, all_said, said_join}
 use Rattle.xn_check.proofs.RowItems.{row_rules, rows_mean, whole_rows}
 use Rattle.xn_check.proofs.Spelled.{said_so, says}
@@ -63,7 +64,7 @@ module _ (g : Graph) (loops : ℕ) (a : Answer) (fine : WellFormed a) where
   -- what is said up to `drawn`
   front_last : all_said D no_front front_items ≡ after_drawing g loops a
   front_last =
-      sym (all_passed g loops proof_items (all_said D no_front front_items) (proof_pass a.rows a.tree)).1
+      sym (all_passed g loops proof_items (all_said D no_front front_items) (proof_passes a.rows a.tree)).1
       ∙ sym (said_join D no_front front_items proof_items)
       ∙ sym (ap (all_said D no_front) apart)
       ∙ said_last g loops a fine

@@ -3,68 +3,18 @@ use Rattle.std.proofs.Common.{◌≡◌, ℕ, zero, suc, ◌+◌, ◌*◌, List,
 use Rattle.std.proofs.lemmas.List.{append-nil}
 use Rattle.std.proofs.Math.ListN.{drop_of_length-le}
 use Rattle.std.proofs.Math.Seq.{drop-cons}
-use Rattle.std.specs.List.{flat_map}
 use Rattle.xn_model.specs.Graph.{Graph, ends_at}
 use Rattle.xn_kinds.specs.declared.drawings.Drawing.{Drawing}
-use Rattle.xn_kinds.specs.declared.rows.Evidence.{Evidence}
-use Rattle.xn_kinds.specs.declared.rows.Evidence.TheVariants.{Five, ThreeThree, Extension}
-use Rattle.xn_kinds.specs.declared.rows.Row.{Row}
-use Rattle.xn_kinds.specs.declared.trees.Node.{Node}
-use Rattle.xn_proof.specs.Forms.{drawing_items, evidence_items, row_items, rows_items, tree_items}
+use Rattle.xn_proof.specs.Forms.{drawing_items}
 use Rattle.xn_proof.specs.Fronts.{next_of}
-use Rattle.xn_proof.specs.Spelling.{overs_of, turns_of}
+use Rattle.xn_proof.specs.Spelling.{turns_of}
 use Rattle.xn_proof.specs.declared.item.Item.{Item}
 use Rattle.xn_proof.specs.declared.item.Item.TheVariants as item
 use Rattle.xn_check.specs.FrontSaid.{FrontSaid, front_said}
 use Rattle.xn_check.specs.Meaning.{FrontAgrees}
 use Rattle.xn_check.specs.Verdict.{draw_rules}
+use Rattle.xn_check.proofs.ItemKinds.{Each, Passes}
 use Rattle.xn_check.proofs.Items.{AllAgree, agree_join, all_said, said_join}
-
--- ---- items that are let pass
-
-abbrev pub Passes : Item → Type 0
-Passes (item.Graph nodes edges) = ⊥
-Passes (item.Loops l) = ⊥
-Passes (item.Edge u v) = ⊥
-Passes (item.Bounds lower upper) = ⊥
-Passes (item.Along list) = ⊥
-Passes (item.Turn a b) = ⊥
-Passes item.Drawn = ⊥
-Passes line = Unit {0}
-
-abbrev pub AllPass : List Item → Type 0
-AllPass [] = Unit {0}
-AllPass (x ∷ xs) = Passes x × AllPass xs
-
-pass_join : (xs ys : List Item) → AllPass xs → AllPass ys → AllPass (xs ++ ys)
-pass_join [] ys first second = second
-pass_join (x ∷ xs) ys first second = (first.0, pass_join xs ys first.1 second)
-
-pass_map : {X : Type 0} (say : X → Item) → ((x : X) → Passes (say x)) → (xs : List X) → AllPass (map say xs)
-pass_map say each [] = tt
-pass_map say each (x ∷ xs) = (each x, pass_map say each xs)
-
-evidence_pass : (e : Evidence) → AllPass (evidence_items e)
-evidence_pass (Five branch paths) = (tt, pass_map (λ p. item.Path p) (λ p. tt) paths)
-evidence_pass (ThreeThree branch paths) = (tt, pass_map (λ p. item.Path p) (λ p. tt) paths)
-evidence_pass (Extension list) = (tt, tt)
-
-row_pass : (row : Row) → AllPass (row_items row)
-row_pass row = (
-  tt,
-  pass_join (map (λ o. item.Over o.0 o.1) (overs_of row.edges row.orders)) (evidence_items row.evidence)
-      (pass_map (λ o. item.Over o.0 o.1) (λ o. tt) (overs_of row.edges row.orders)) (evidence_pass row.evidence),
-)
-
-each_pass : (rows : List Row) → AllPass (flat_map row_items rows)
-each_pass [] = tt
-each_pass (row ∷ rows) = pass_join (row_items row) (flat_map row_items rows) (row_pass row) (each_pass rows)
-
-tree_pass : (tree : List Node) → AllPass (tree_items tree)
-tree_pass tree = (tt, pass_join (map (λ n. item.Step n) tree) (item.End ∷ []) (pass_map (λ n. item.Step n) (λ n. tt) tree) (tt, tt))
-
-pub proof_pass : (rows : List Row) (tree : List Node) → AllPass (rows_items rows ++ tree_items tree)
-proof_pass rows tree = pass_join (rows_items rows) (tree_items tree) (tt, each_pass rows) (tree_pass tree)
 
 module _ (g : Graph) (loops : ℕ) where
   passed : (x : Item) (f : FrontSaid) → Passes x → FrontAgrees g loops f x × (front_said f x ≡ f)
@@ -88,7 +38,7 @@ module _ (g : Graph) (loops : ℕ) where
   passed item.End f p = (tt, refl)
 
   -- such items change nothing
-  pub all_passed : (xs : List Item) (f : FrontSaid) → AllPass xs →
+  pub all_passed : (xs : List Item) (f : FrontSaid) → Each Passes xs →
       AllAgree (draw_rules g loops) f xs × (all_said (draw_rules g loops) f xs ≡ f)
   all_passed [] f p = (tt, refl)
   all_passed (x ∷ xs) f p =

@@ -14,7 +14,8 @@ use Rattle.xn_check.specs.FrontSaid.{FrontSaid, no_front}
 use Rattle.xn_check.specs.Judging.{Rules}
 use Rattle.xn_check.specs.Laws.{DrawnWhereSpelled, SpellsDrawing}
 use Rattle.xn_check.specs.Verdict.{DrawVerdict, draw_rules}
-use Rattle.xn_check.proofs.DrawItems.{all_passed, drawing_said, edge_items, edges_agree, edges_are, edges_said, proof_pass}
+use Rattle.xn_check.proofs.DrawItems.{all_passed, drawing_said, edge_items, edges_agree, edges_are, edges_said}
+use Rattle.xn_check.proofs.ItemKinds.{proof_passes}
 use Rattle.xn_check.proofs.Items.{AllAgree, agree_first, agree_head, agree_join, agree_rest, agree_tail, all_said, said_join}
 use Rattle.xn_check.proofs.Spelled.{said_so, says}
 
@@ -61,7 +62,7 @@ module _ (g : Graph) (loops : ℕ) (a : Answer) where
       ∙ ap (λ (f : FrontSaid). all_said R f with_bounds) (edges_said g loops a.graph.ends no_front)
       ∙ said_join R after_bounds (drawing_items a.drawing) (item.Drawn ∷ proof_items)
       ∙ ap (λ (f : FrontSaid). all_said R f (item.Drawn ∷ proof_items)) (drawn_said fine)
-      ∙ (all_passed g loops proof_items after_drawing (proof_pass a.rows a.tree)).1
+      ∙ (all_passed g loops proof_items after_drawing (proof_passes a.rows a.tree)).1
 
   pub is_for : WellFormed a → AllAgree R no_front (items_of a) → IsFor g loops a
   is_for fine all =
@@ -88,7 +89,7 @@ module _ (g : Graph) (loops : ℕ) (a : Answer) where
   all_agree fine is =
       let es = edge_items g loops a.graph.ends in
       let count : length a.graph.ends ≡ length g.ends = ap (λ (h : Graph). length h.ends) is.same_graph in
-      let passed = all_passed g loops proof_items after_drawing (proof_pass a.rows a.tree) in
+      let passed = all_passed g loops proof_items after_drawing (proof_passes a.rows a.tree) in
       let last : AllAgree R after_drawing (item.Drawn ∷ proof_items) = ((is.drawing, is.crossings), passed.0) in
       let drawn = subst (λ (f : FrontSaid). AllAgree R f (item.Drawn ∷ proof_items)) (sym (drawn_said fine)) last in
       let lists = (drawing_said g loops a.drawing (length a.graph.ends + total length a.drawing.orders) after_bounds fine.drawing.next_fits).0 in

@@ -1,5 +1,5 @@
 -- What the forms of the lines so far tell of the rows.
-use Rattle.std.proofs.Common.{◌≡◌, ℕ, zero, suc, ◌+◌, ◌==◌, ◌≤◌, ◌^◌, inl, inr, Bool, true, false, cond, List, [], ◌∷◌, ◌++◌, length, Option, Some, None, Result, Ok, Err, refl, sym, subst, ap, ◌∙◌, arith, codes}
+use Rattle.std.proofs.Common.{◌≡◌, ℕ, zero, suc, ◌+◌, ◌==◌, ◌≤◌, ◌^◌, inl, inr, true, false, cond, List, [], ◌∷◌, ◌++◌, length, Option, Some, None, Result, Ok, Err, refl, sym, subst, arith, codes}
 use Rattle.std.proofs.lemmas.Bool.{eq-eqb, ne_eqb}
 use Rattle.std.proofs.lemmas.List.{length_push}
 use Rattle.xn_kinds.specs.declared.flaws.Flaw.{Flaw}
@@ -7,7 +7,7 @@ use Rattle.xn_kinds.specs.declared.rows.Row.{Row}
 use Rattle.xn_kinds.specs.declared.trees.Node.{Node}
 use Rattle.xn_kinds.specs.declared.trees.Node.TheVariants.{Pair, Place as PlaceNode, Leaf}
 use Rattle.xn_text.specs.Pieces.{words_of}
-use Rattle.xn_proof.specs.Forms.{Line, State, alongs_from, edges_from, is_end, next_at, node_item, overs_from, paths_from, rows_from, rule_at, start_item, start_paths, turns_from, words_at}
+use Rattle.xn_proof.specs.Forms.{alongs_from, edges_from, node_item, overs_from, paths_from, rows_from, start_item, start_paths, turns_from, words_at}
 use Rattle.xn_proof.specs.Proofs.{end_of, extension_of, five_of, leaf_of, node_of, pair_of, place_of, start_of, three_of}
 use Rattle.xn_proof.specs.Ranges.{edges_form, leaf_form, list_form, no_form, nodes_form, one_form}
 use Rattle.xn_proof.specs.Reading.{◌>>=◌, has_key, keyed_form}
@@ -25,6 +25,7 @@ use Rattle.xn_proof.proofs.Steps.{bind_ok, ok_is}
 use Rattle.xn_proof.proofs.Values.{IsLeaf, leaf_is, leaf_numbers, nodes_is, one_is}
 use Rattle.xn_check.specs.Fitting.{AreWhole, FormsFitRows, IsBegun, RowsFit}
 use Rattle.xn_check.specs.Parts.{IsBranch, IsInRange, MayCome}
+use Rattle.xn_check.proofs.Taken.{taken}
 use Rattle.xn_check.specs.RowsSaid.{RowsSaid, evidence_of, paths_for, row_by_list, row_by_path, row_of, rows_said, with_row}
 
 -- ---- what a line says of its numbers
@@ -202,18 +203,8 @@ module _ (s : RowsSaid) where
 
 -- ---- from the state of the forms
 
-tests : {A : Type 0} (b c : Bool) (d f : Flaw) (w : Result A Flaw) (x : A) → cond b (Err d) (cond c w (Err f)) ≡ Ok x → w ≡ Ok x
-tests true c d f w x e = absurd cc
-tests false true d f w x e = e
-tests false false d f w x e = absurd cc
-
-taken : (at : State) (line : Line) (x : Item) (later : State) → next_at at line ≡ Ok (x, later) → words_at at.1 at.0 (words_of line.0) ≡ Ok (x, later.1)
-taken at line x later e =
-    let first = bind_ok (rule_at at.1 at.0 line) _ (x, later) e in
-    tests (is_end at.1) line.1 _ _ _ (x, later.1) (first.1 ∙ ap (λ (n : Item × State). Ok (n.0, n.1.1)) (ok_is _ (x, later) first.2))
-
 pub forms_fit_rows : FormsFitRows
 forms_fit_rows = record {
   start = (refl, refl);
-  next = λ at line s x later known e. step s at.1 at.0 (words_of line.0) (x, later.1) (taken at line x later e) known;
+  next = λ at line s x later known e. step s at.1 at.0 (words_of line.0) (x, later.1) (taken at line (x, later) e) known;
 }

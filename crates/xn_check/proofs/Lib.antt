@@ -8,14 +8,13 @@ pub mod Ends
 pub mod Fitting
 pub mod Folds
 pub mod FrontPlaces
+pub mod ItemKinds
 pub mod Items
 pub mod Leaves
 pub mod Lines
 pub mod OneOutcome
-pub mod Outcomes
 pub mod Parts
 pub mod RowItems
-pub mod Rules
 pub mod Spelled
 pub mod Stages
 pub mod Taken

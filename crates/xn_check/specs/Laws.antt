@@ -32,6 +32,14 @@ abbrev pub SpellsProof : Graph → ℕ → List ℕ → ℕ → ℕ → Type 0
 SpellsProof g loops text lower upper =
     (a : Answer) × Spells g loops text a × (a.lower ≡ lower) × (a.upper ≡ upper) × Accepts g lower a.rows a.tree
 
+-- a text has at most one verdict
+abbrev pub OneVerdict : Type 0
+OneVerdict = (g : Graph) (loops : ℕ) (text : List ℕ) (o p : Result (ℕ × ℕ) Flaw) → Verdict g loops text o → Verdict g loops text p → o ≡ p
+
+-- and at most one draw verdict
+abbrev pub OneDrawVerdict : Type 0
+OneDrawVerdict = (g : Graph) (loops : ℕ) (text : List ℕ) (o p : Result Drawing Flaw) → DrawVerdict g loops text o → DrawVerdict g loops text p → o ≡ p
+
 -- the draw verdict gives a drawing exactly where the text spells an answer with this drawing
 abbrev pub DrawnWhereSpelled : Type 0
 DrawnWhereSpelled =
@@ -60,13 +68,3 @@ AcceptedHasProof = (g : Graph) (loops : ℕ) (text : List ℕ) (lower upper : �
 abbrev pub AcceptedTextBounds : Type 0
 AcceptedTextBounds =
     (g : Graph) (loops : ℕ) (text : List ℕ) (lower upper : ℕ) → IsGraph g → Verdict g loops text (Ok (lower, upper)) → Least g lower × IsAtMost g upper
-
--- a text has one verdict at most
-abbrev pub OneVerdict : Type 0
-OneVerdict =
-    (g : Graph) (loops : ℕ) (text : List ℕ) (o p : Result (ℕ × ℕ) Flaw) → IsGraph g → Verdict g loops text o → Verdict g loops text p → o ≡ p
-
--- and one of its drawing
-abbrev pub OneDrawVerdict : Type 0
-OneDrawVerdict =
-    (g : Graph) (loops : ℕ) (text : List ℕ) (o p : Result Drawing Flaw) → IsGraph g → DrawVerdict g loops text o → DrawVerdict g loops text p → o ≡ p

@@ -16,6 +16,12 @@ pub fn accepted_bounds()
     accepted_proofs();
 }
 
+/// A text has at most one verdict, and at most one draw verdict: so what the calls answer is the only one, but for want of memory.
+pub fn one_outcome()
+    ensures verdict { OneVerdict }
+    ensures draw { OneDrawVerdict }
+{}
+
 /// A text is accepted with its bounds exactly where it is the one spelling of an answer for the graph that has these bounds, a drawing
 /// with `upper` crossings, rows that hold and a tree that proves `lower`.
 pub fn accepted_where_spelled()
@@ -32,12 +38,3 @@ pub fn drawn_texts()
 pub fn forms_fit_rows()
     ensures { FormsFitRows }
 {}
-
-/// A text has one verdict, and one of its drawing.
-pub fn one_verdict()
-    ensures whole { OneVerdict }
-    ensures drawing { OneDrawVerdict }
-{
-    xn_draw::laws::first_flaws();
-    xn_rows::laws::first_flaws();
-}
