@@ -13,7 +13,7 @@ use crate::files::{read_both, read_file};
 use crate::judging::{checked, drawn, examined};
 use crate::status::Status;
 use std::alloc::Global;
-use xn_check::laws::{accepted_bounds, one_verdict};
+use xn_check::laws::{accepted_bounds, one_outcome};
 use xn_io::{Input, Sink, write_all};
 use xn_words::{Command, WordsErr, read_words};
 
@@ -51,7 +51,7 @@ pub fn top<I: Input, K: Sink>(alloc: Global, words: &[String], input: &mut I, ou
     ensures untouched { IsSilent result → (K.taken out.new ≡ K.taken out.old) × (K.faults out.new ≡ K.faults out.old) }
 {
     accepted_bounds();
-    one_verdict();
+    one_outcome();
     let command = match read_words(alloc, words) {
         Ok(command) => command,
         Err(WordsErr::Refused) => return Status::Words,

@@ -7,3 +7,4 @@ pub mod Shapes
 pub mod Shown
 pub mod TokenKinds
 pub mod TurnSteps
+pub mod TurnsRound

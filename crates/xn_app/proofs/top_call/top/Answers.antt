@@ -25,9 +25,9 @@ returns-in-Ok-work-clause-exact g c =
     let comes : IfSome told (λ files. ComesTo files r (status, output)) = search rules in
     let ran = ran_on told r status output old new before after end judged finishes comes in
     let spoken = never_words status output old new before after end judged finishes in
-    let laws = c.one_verdict.ensures in
+    let laws = c.one_outcome.ensures in
     asked_is (words_request c.args.words.now) r (λ asked. IfSome told (λ files. (outcome : Outcome) → ComesTo files asked outcome → IsAside end ⊎ (end ≡ outcome.0)))
-    c.in-Ok.ensures (exact_told laws.whole laws.drawing told r end old new spoken ran)
+    c.in-Ok.ensures (exact_told laws.verdict laws.draw told r end old new spoken ran)
 
 pub returns-in-Ok-work-clause-bounds : goal.returns-in-Ok-work-clause-bounds
 returns-in-Ok-work-clause-bounds g c =
