@@ -13,7 +13,6 @@ use Rattle.xn_app.specs.Verdict.{Verdict}
 use Rattle.xn_app.specs.declared.status.Limit.TheVariants.{Bytes, Edges, Nodes}
 use Rattle.xn_app.specs.declared.status.Status.{Status}
 use Rattle.xn_app.specs.declared.status.Status.TheVariants.{Done, Refused, Words, Graph, Limit, Read, Write, Memory}
-use Rattle.xn_app.proofs.Graphs.{graph_is}
 use Rattle.xn_app.proofs.OneVerdict.{one_verdict}
 
 -- one verdict leads to one outcome
@@ -33,12 +32,12 @@ module _ (check_law : OneVerdict) (draw_law : OneDrawVerdict) where
   one_outcome files (check graph answer) x y first second =
       let text = bytes_of files answer in
       one_on (Checked text) (bytes_of files graph)
-      (λ found is x y a b. one_judged (checking.Verdict found.graph found.loops text) _ (λ v w p q. check_law found.graph found.loops text v w (graph_is (bytes_of files graph) found is) p q) x y a b)
+      (λ found is x y a b. one_judged (checking.Verdict found.graph found.loops text) _ (check_law found.graph found.loops text) x y a b)
       (graph_of_text (bytes_of files graph)) refl x y first second
   one_outcome files (draw graph answer) x y first second =
       let text = bytes_of files answer in
       one_on (Drawn text) (bytes_of files graph)
-      (λ found is x y a b. one_judged (checking.DrawVerdict found.graph found.loops text) _ (λ v w p q. draw_law found.graph found.loops text v w (graph_is (bytes_of files graph) found is) p q) x y a b)
+      (λ found is x y a b. one_judged (checking.DrawVerdict found.graph found.loops text) _ (draw_law found.graph found.loops text) x y a b)
       (graph_of_text (bytes_of files graph)) refl x y first second
 
 -- the end is that of the outcome
