@@ -7,7 +7,7 @@ use Rattle.xn_kinds.specs.declared.rows.Row.{Row}
 use Rattle.xn_kinds.specs.declared.trees.Node.{Node}
 use Rattle.xn_proof.specs.declared.item.Item.{Item}
 use Rattle.xn_proof.specs.declared.item.Item.TheVariants as item
-use Rattle.xn_rows.specs.Walk.{after}
+use Rattle.xn_tree.specs.Walk.{after}
 use Rattle.xn_check.specs.FrontSaid.{front_said}
 use Rattle.xn_check.specs.Judging.{Rules}
 use Rattle.xn_check.specs.Meaning.{Agrees, FrontAgrees, KeepsFirst}

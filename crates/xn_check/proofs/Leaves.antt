@@ -13,7 +13,7 @@ use Rattle.xn_kinds.specs.declared.flaws.FlawKind.TheVariants as kinds
 use Rattle.xn_kinds.specs.declared.rows.Row.{Row}
 use Rattle.xn_kinds.specs.declared.trees.Node.TheVariants.{Leaf}
 use Rattle.xn_proof.specs.declared.flaw.AnswerErr.TheVariants as errors
-use Rattle.xn_rows.specs.Leaf.{IsRowOf}
+use Rattle.xn_tree.specs.Leaf.{IsRowOf}
 use Rattle.xn_check.specs.Meaning.{KeepsFirst, StepFails, need_of}
 use Rattle.xn_check.specs.Parts.{IsInRange, Refuses}
 

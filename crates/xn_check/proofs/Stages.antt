@@ -19,7 +19,7 @@ use Rattle.xn_proof.specs.declared.item.Item.TheVariants as item
 use Rattle.xn_proof.specs.declared.places.Block.{Block}
 use Rattle.xn_proof.specs.declared.places.Place.{Place}
 use Rattle.xn_proof.specs.declared.places.Place.TheVariants as place
-use Rattle.xn_rows.specs.Walk.{after}
+use Rattle.xn_tree.specs.Walk.{after}
 use Rattle.xn_check.specs.Meaning.{Agrees, KeepsFirst}
 use Rattle.xn_check.specs.RowsSaid.{RowsSaid, row_by_list, row_by_path, with_row}
 use Rattle.xn_check.specs.Said.{Said, said}

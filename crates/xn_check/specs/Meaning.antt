@@ -19,7 +19,7 @@ use Rattle.xn_draw.specs.Flaws.{IsFlaw}
 use Rattle.xn_proof.specs.declared.item.Item.{Item}
 use Rattle.xn_proof.specs.declared.item.Item.TheVariants as item
 use Rattle.xn_rows.specs.Holding.{IsRowFlaw}
-use Rattle.xn_rows.specs.Walk.{Fits}
+use Rattle.xn_tree.specs.Walk.{Fits}
 use Rattle.xn_check.specs.FrontSaid.{FrontSaid}
 use Rattle.xn_check.specs.RowsSaid.{row_by_list, row_by_path}
 use Rattle.xn_check.specs.Said.{Said}

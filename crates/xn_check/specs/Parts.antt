@@ -10,7 +10,7 @@ use Rattle.xn_proof.specs.declared.flaw.AnswerErr.{AnswerErr}
 use Rattle.xn_proof.specs.declared.flaw.AnswerErr.TheVariants as errors
 use Rattle.xn_proof.specs.declared.item.Item.{Item}
 use Rattle.xn_proof.specs.declared.item.Item.TheVariants as item
-use Rattle.xn_rows.specs.Walk.{Position, pending_of}
+use Rattle.xn_tree.specs.Walk.{Position, pending_of}
 use Rattle.xn_check.specs.RowsSaid.{RowsSaid}
 use Rattle.xn_check.specs.TreeSaid.{TreeSaid}
 

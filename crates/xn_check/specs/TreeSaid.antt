@@ -3,7 +3,7 @@ use Rattle.std.specs.Prelude.{ℕ, ◌+◌, ◌-◌, ◌^◌, List, [], ◌∷�
 use Rattle.xn_kinds.specs.State.{State, empty_state}
 use Rattle.xn_proof.specs.declared.item.Item.{Item}
 use Rattle.xn_proof.specs.declared.item.Item.TheVariants as item
-use Rattle.xn_rows.specs.Walk.{after}
+use Rattle.xn_tree.specs.Walk.{after}
 
 pub record TreeSaid : Type 0 where
   -- the states that the tree has still to prove, and how many nodes it has: the count stays at 2^64 - 1

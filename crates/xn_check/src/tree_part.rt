@@ -5,7 +5,7 @@ ghost use Rattle.xn_kinds.specs.Bound.{IsBound};
 ghost use Rattle.xn_kinds.specs.State.{State};
 ghost use Rattle.xn_kinds.specs.declared.flaws.FlawKind.TheVariants.{TreeShape, Weak};
 ghost use Rattle.xn_kinds.specs.declared.trees.Node.TheVariants.{Leaf};
-ghost use Rattle.xn_rows.specs.Walk.{pending_of};
+ghost use Rattle.xn_tree.specs.Walk.{pending_of};
 ghost use Rattle.xn_check.specs.Meaning.{KeepsFirst, StepFails, need_of};
 ghost use Rattle.xn_check.specs.Parts.{IsInRange, Refuses, tree_of};
 ghost use Rattle.xn_check.specs.TreeSaid.{no_tree, tree_said};
@@ -17,7 +17,7 @@ use std::marker::Model;
 use xn_graph::Graph;
 use xn_kinds::{FlawKind, Node};
 use xn_proof::{AnswerErr, Item};
-use xn_rows::{TreeWalk, bound};
+use xn_tree::{TreeWalk, bound};
 
 /// What was said of the tree of an answer for a graph.
 ///

@@ -1,24 +1,14 @@
-//! Rows, given states, the bound of a leaf, and the walk through proof trees.
+//! Rows: whether one is a row of a graph and holds, and if not, its first flaw.
 #![tactic(auto)]
 
-mod bounds;
 mod causes;
-mod crossings;
 mod dependents;
 mod holding;
 pub mod laws;
-mod leasts;
-mod leaves;
-mod lists;
-mod states;
 mod strays;
 #[cfg(test)]
 mod tests;
-mod turns;
-mod walks;
 
-pub use bounds::bound;
 pub use causes::RowErr;
 pub use holding::row_holds;
-pub use states::Given;
-pub use walks::{Choice, TreeWalk};
+pub use xn_tree::{Choice, Given, TreeWalk, bound};

@@ -10,8 +10,6 @@ use xn_kinds::{Evidence, EvidenceFlaw, Orders, Paths, Row, RowFlaw};
 use xn_list::Sequence;
 
 mod leaves;
-mod states;
-mod walks;
 
 /// The edges of K5, and two that share no node with another.
 const ENDS: [(u32, u32); 12] = [

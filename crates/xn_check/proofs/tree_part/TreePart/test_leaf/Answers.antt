@@ -1,7 +1,7 @@
 use Rattle.std.proofs.Common.{◌≢◌, [], rules, FitsSigned, arith, ap, ◌∙◌}
 use Rattle.std.proofs.lemmas.Int.{ints, to_z-of_z}
 use Rattle.std.specs.Int.{w128}
-use Rattle.xn_rows.specs.Walk.{pending_of}
+use Rattle.xn_tree.specs.Walk.{pending_of}
 use Rattle.xn_check.proofs.Leaves.{leaf_misshapen, leaf_weak, not_where}
 use Rattle.xn_check.proofs.tree_part.TreePart.test_leaf.Goals as goal
 

@@ -5,7 +5,7 @@ use Rattle.xn_model.specs.Graph.{Graph}
 use Rattle.xn_kinds.specs.Bound.{PartsFit, row_at}
 use Rattle.xn_kinds.specs.Row.{RowHolds}
 use Rattle.xn_kinds.specs.declared.rows.Row.{Row}
-use Rattle.xn_rows.specs.Leaf.{IsRowOf}
+use Rattle.xn_tree.specs.Leaf.{IsRowOf}
 use Rattle.xn_rows.proofs.tests.leaves.bound_with.Goals as goal
 
 -- a row that holds is one of the graph

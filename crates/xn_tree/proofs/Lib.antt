@@ -1,0 +1,11 @@
+pub mod Additions
+pub mod Changed
+pub mod Edges
+pub mod Kept
+pub mod Least
+pub mod Neighbours
+pub mod Pairs
+pub mod Paths
+pub mod Split
+pub mod Table
+pub mod Weights

@@ -1,0 +1,5 @@
+pub mod Given
+pub mod Leaf
+pub mod Least
+pub mod Steps
+pub mod Walk

@@ -1,0 +1,86 @@
+-- A walk through proof trees in preorder: the choices on the path to its state, and the states that are still to come.
+use Rattle.std.specs.Prelude.{◌≡◌, ℕ, ◌+◌, ◌-◌, ◌<◌, ◌≤◌, Bool, true, false, List, [], ◌∷◌, ◌++◌, None, length, map, if◌then◌else◌}
+use Rattle.std.specs.List.{range_with_len}
+use Rattle.xn_model.specs.Graph.{Graph, Independent}
+use Rattle.xn_model.specs.Lists.{has}
+use Rattle.xn_kinds.specs.State.{State, Crosses, decide, empty_state, place}
+use Rattle.xn_kinds.specs.Tree.{children}
+use Rattle.xn_kinds.specs.declared.trees.Node.{Node}
+use Rattle.xn_kinds.specs.declared.trees.Node.TheVariants.{Pair, Place, Leaf}
+use Rattle.xn_tree.specs.declared.walks.Choice.{Choice}
+use Rattle.xn_tree.specs.declared.walks.Choice.TheVariants.{Decided, Placed}
+
+-- ---- choices
+
+-- the state that a choice makes of the one before it
+abbrev pub chosen : State → Choice → State
+chosen s (Decided e f x) = decide s e f x
+chosen s (Placed e f i) = place s e f i
+
+-- the states of the choices that come after it at its node
+abbrev pub later : State → Choice → List State
+later s (Decided e f true) = []
+later s (Decided e f false) = decide s e f true ∷ []
+later s (Placed e f i) = map (place s e f) (range_with_len (i + 1) (length (s.placed e) - i))
+
+-- the choice may be made in the state
+abbrev pub MayChoose : Graph → State → Choice → Type 0
+MayChoose g s (Decided e f x) = (e < f) × (f < length g.ends) × Independent g.ends e f × (s.decided e f ≡ None)
+MayChoose g s (Placed e f i) = Crosses s e f × (has (s.placed e) f ≡ false) × (i ≤ length (s.placed e))
+
+-- ---- paths: the last choice comes first
+
+-- the state after the choices
+abbrev pub state_after : List Choice → State
+state_after [] = empty_state
+state_after (choice ∷ path) = chosen (state_after path) choice
+
+-- the states that are still to come after it
+abbrev pub owed : List Choice → List State
+owed [] = []
+owed (choice ∷ path) = later (state_after path) choice ++ owed path
+
+-- each choice may be made after those before it
+abbrev pub MayAll : Graph → List Choice → Type 0
+MayAll g [] = Unit {0}
+MayAll g (choice ∷ path) = MayChoose g (state_after path) choice × MayAll g path
+
+-- the path leads to the state
+pub record IsPath (g : Graph) (s : State) (path : List Choice) : Type 0 where
+  pub state : s ≡ state_after path
+  pub may : MayAll g path
+
+-- the pending states: the one that the path leads to and those still to come; none where nothing is left
+abbrev pub pending_at : Bool → List Choice → List State
+pending_at live path = if live then state_after path ∷ owed path else []
+
+-- ---- walks
+
+-- a graph, a path, and whether a state is left
+pub record Position : Type 0 where
+  pub graph : Graph
+  pub path : List Choice
+  pub live : Bool
+
+abbrev pub position_of : Graph → List Choice → Bool → Position
+position_of g path live = record { graph = g; path = path; live = live }
+
+-- the states that are still to be proved, in order
+abbrev pub pending_of : Position → List State
+pending_of w = pending_at w.live w.path
+
+-- the node keeps its rule in the state, but for what a leaf says of its bound
+abbrev pub Fits : Graph → State → Node → Type 0
+Fits g s (Pair e f) = (e < f) × (f < length g.ends) × Independent g.ends e f × (s.decided e f ≡ None)
+Fits g s (Place e f) = Crosses s e f × (has (s.placed e) f ≡ false)
+Fits g s (Leaf d parts) = Unit {0}
+
+-- there is a first pending state, and the node fits it
+abbrev pub FitsFirst : Graph → List State → Node → Type 0
+FitsFirst g [] node = ⊥
+FitsFirst g (s ∷ pending) node = Fits g s node
+
+-- the children of the first pending state stand in its place
+abbrev pub after : List State → Node → List State
+after [] node = []
+after (s ∷ pending) node = children s node ++ pending
