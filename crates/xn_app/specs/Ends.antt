@@ -3,7 +3,7 @@ use Rattle.std.specs.Prelude.{◌≡◌, ◌⊎◌, ℕ, List, [], Option, Ok}
 use Rattle.std.specs.Io.KnownBytes.{Appends}
 use Rattle.xn_io.specs.Causes.{Rose}
 use Rattle.xn_io.specs.Sink.{TakesPart}
-use Rattle.xn_model.specs.Drawing.{IsAtMost, Least}
+use Rattle.xn_model.specs.Drawing.{IsAtMost, IsAtLeast}
 use Rattle.xn_check.specs.Verdict as checking
 use Rattle.xn_draw.specs.declared.results.Seen.{Seen}
 use Rattle.xn_gml.specs.Meaning.{Found, graph_of_text}
@@ -52,7 +52,7 @@ pub record SaysBounds (graph_text text : List ℕ) (old new : Option (List ℕ))
   pub lower : ℕ
   pub upper : ℕ
   pub accepted : checking.Verdict found.graph found.loops text (Ok (lower, upper))
-  pub least : Least found.graph lower
+  pub least : IsAtLeast found.graph lower
   pub at_most : IsAtMost found.graph upper
   pub written : Appends old new (accepted_line (lower, upper))
 

@@ -2,7 +2,7 @@
 use Rattle.std.proofs.Common.{◌≡◌, ℕ, ◌+◌, ◌-◌, ◌^◌, Bool, List, ◌∷◌, min, Ok, sym, subst, ap, ◌∙◌}
 use Rattle.xn_model.specs.Graph.{Graph}
 use Rattle.xn_text.specs.Pieces.{lines_of}
-use Rattle.xn_proof.specs.Forms.{State, next_at}
+use Rattle.xn_proof.specs.Forms.{Reached, next_at}
 use Rattle.xn_proof.specs.declared.item.Item.{Item}
 use Rattle.xn_proof.specs.declared.item.Item.TheVariants as item
 use Rattle.xn_check.specs.Fitting.{RowsFit}
@@ -19,7 +19,7 @@ use Rattle.xn_check.proofs.FrontPlaces.{line_ready}
 use Rattle.xn_check.proofs.Taken.{counts_on}
 
 -- so far each line means what it must
-pub record Checked (g : Graph) (loops : ℕ) (text : List ℕ) (at : State) (kept : Kept) (left : ℕ × List ℕ) (number : ℕ) : Type 0 where
+pub record Checked (g : Graph) (loops : ℕ) (text : List ℕ) (at : Reached) (kept : Kept) (left : ℕ × List ℕ) (number : ℕ) : Type 0 where
   pub same_graph : kept.front.graph ≡ g
   pub same_loops : kept.front.loops ≡ loops
   pub stands : FrontStands g at.1 kept.front.said
@@ -47,20 +47,20 @@ front_agrees g loops s item.Tree a = tt
 front_agrees g loops s (item.Step n) a = tt
 front_agrees g loops s item.End a = tt
 
-module _ (g : Graph) (loops : ℕ) (text : List ℕ) (at : State) (kept : Kept) (left after : ℕ × List ℕ) (number : ℕ) (line : ℕ × List ℕ × Bool) where
+module _ (g : Graph) (loops : ℕ) (text : List ℕ) (at : Reached) (kept : Kept) (left after : ℕ × List ℕ) (number : ℕ) (line : ℕ × List ℕ × Bool) where
   -- the line fits
-  pub line_fits : (next : Item × State) → next_at at (line.1, line.2) ≡ Ok next → Checked g loops text at kept left number →
+  pub line_fits : (next : Item × Reached) → next_at at (line.1, line.2) ≡ Ok next → Checked g loops text at kept left number →
       FrontFits kept.front.graph kept.front.said next.0
   line_fits next is checked =
       subst (λ (h : Graph). FrontFits h kept.front.said next.0) (sym checked.same_graph)
       (line_ready g loops kept.front.said at (line.1, line.2) next is checked.stands).0
 
-  pub line_may_come : (x : Item) (later : State) → next_at at (line.1, line.2) ≡ Ok (x, later) → Checked g loops text at kept left number →
+  pub line_may_come : (x : Item) (later : Reached) → next_at at (line.1, line.2) ≡ Ok (x, later) → Checked g loops text at kept left number →
       MayCome kept.rows.said x
   line_may_come x later is checked = (forms_fit_rows.next at (line.1, line.2) kept.rows.said x later checked.rows_fit is).0
 
   -- one line more
-  pub line_on : (x : Item) (later : State) (more : Kept) → lines_of left ≡ line ∷ lines_of after → next_at at (line.1, line.2) ≡ Ok (x, later) →
+  pub line_on : (x : Item) (later : Reached) (more : Kept) → lines_of left ≡ line ∷ lines_of after → next_at at (line.1, line.2) ≡ Ok (x, later) →
       more.front.graph ≡ kept.front.graph → more.front.loops ≡ kept.front.loops →
       Judged (check_rules kept.front.graph kept.front.loops) (said_of kept) number x (said_of more) (Ok tt) →
       Checked g loops text at kept left number → Checked g loops text later more after (min (number + 1) (2 ^ 64 - 1))

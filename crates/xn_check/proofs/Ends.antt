@@ -7,7 +7,7 @@ use Rattle.xn_model.specs.Lists.{at}
 use Rattle.xn_kinds.specs.Row.{RowHolds}
 use Rattle.xn_kinds.specs.declared.flaws.Flaw.{Flaw}
 use Rattle.xn_text.specs.Pieces.{words_of}
-use Rattle.xn_proof.specs.Forms.{Line, State, is_end, next_at, start_state, text_lines}
+use Rattle.xn_proof.specs.Forms.{Line, Reached, is_end, next_at, start_state, text_lines}
 use Rattle.xn_proof.proofs.Steps.{ok_is}
 use Rattle.xn_proof.specs.declared.item.Item.{Item}
 use Rattle.xn_proof.specs.declared.places.Place.{Place}
@@ -54,15 +54,15 @@ module _ (g : Graph) (loops number : ℕ) (s : Said) (v : ℕ × ℕ) where
 
 -- ---- lines
 
-on_line : (g : Graph) (loops : ℕ) (s : Said) (number : ℕ) (r : Result (Item × State) Flaw) (Rest : State → Said → Type 0) (v : ℕ × ℕ) (Goal : Type 0) →
-    OnLine (check_rules g loops) s number r Rest (Ok v) → ((next : Item × State) → r ≡ Ok next → Agrees g loops s next.0 → Rest next.1 (said s next.0) → Goal) → Goal
+on_line : (g : Graph) (loops : ℕ) (s : Said) (number : ℕ) (r : Result (Item × Reached) Flaw) (Rest : Reached → Said → Type 0) (v : ℕ × ℕ) (Goal : Type 0) →
+    OnLine (check_rules g loops) s number r Rest (Ok v) → ((next : Item × Reached) → r ≡ Ok next → Agrees g loops s next.0 → Rest next.1 (said s next.0) → Goal) → Goal
 on_line g loops s number (Err flaw) Rest v Goal e go = absurd cc
 on_line g loops s number (Ok next) Rest v Goal e go = elim e [
   | inl both ↦ go next refl both.0 both.1
   | inr fails ↦ absurd (let other = fails.2 in cc)
 ]
 
-judged : (g : Graph) (loops : ℕ) (lines : List Line) (at : State) (s : Said) (v : ℕ × ℕ) → Judges (check_rules g loops) at s lines (Ok v) → Stage g at.1 s → HasProofOf g v.0 v.1
+judged : (g : Graph) (loops : ℕ) (lines : List Line) (at : Reached) (s : Said) (v : ℕ × ℕ) → Judges (check_rules g loops) at s lines (Ok v) → Stage g at.1 s → HasProofOf g v.0 v.1
 judged g loops [] at s v j known = at_end g loops at.0 s v at.1 j known
 judged g loops (line ∷ lines) at s v j known =
     on_line g loops s at.0 (next_at at line) _ v (HasProofOf g v.0 v.1) j (λ next is agrees rest.

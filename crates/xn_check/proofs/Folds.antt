@@ -2,13 +2,13 @@
 use Rattle.std.proofs.Common.{◌≡◌, ℕ, inl, inr, Bool, List, [], ◌∷◌, map, Result, Ok, Err, refl, sym, subst, ap}
 use Rattle.xn_kinds.specs.declared.flaws.Flaw.{Flaw}
 use Rattle.xn_text.specs.Pieces.{lines_of}
-use Rattle.xn_proof.specs.Forms.{Line, State, is_end, next_at, start_state}
+use Rattle.xn_proof.specs.Forms.{Line, Reached, is_end, next_at, start_state}
 use Rattle.xn_proof.specs.Reading.{Fails}
 use Rattle.xn_proof.specs.declared.flaw.AnswerErr.{AnswerErr}
 use Rattle.xn_proof.specs.declared.flaw.AnswerErr.TheVariants as errors
 use Rattle.xn_proof.specs.declared.item.Item.{Item}
-use Rattle.xn_check.specs.Gives.{Refuses}
-use Rattle.xn_check.specs.Judging.{AtEnd, Judged, Judges, OnLine, Outcome, Rules}
+use Rattle.xn_check.specs.Gives.{RefusesText}
+use Rattle.xn_check.specs.Judging.{AtEnd, Judged, Judges, OnLine, JudgesTo, Rules}
 
 -- the lines that are left
 abbrev pub lines_left : ℕ × List ℕ → List Line
@@ -16,22 +16,22 @@ lines_left left = map (λ l. (l.1, l.2)) (lines_of left)
 
 module _ {S A : Type 0} (rules : Rules S A) (text : List ℕ) where
   -- where lines led to a state and said this, what comes of those that are left comes of the text
-  abbrev pub Leads : State → S → ℕ × List ℕ → Type 0
-  Leads at s left = (o : Result A Flaw) → Judges rules at s (lines_left left) o → Outcome rules text o
+  abbrev pub Leads : Reached → S → ℕ × List ℕ → Type 0
+  Leads at s left = (o : Result A Flaw) → Judges rules at s (lines_left left) o → JudgesTo rules text o
 
   pub starts : Leads start_state rules.start (1, text)
   starts o comes = comes
 
   -- the next line is judged
-  by_line : (at : State) (s : S) (left after : ℕ × List ℕ) (line : ℕ × List ℕ × Bool) (r : Result (Item × State) Flaw) (o : Result A Flaw) →
+  by_line : (at : Reached) (s : S) (left after : ℕ × List ℕ) (line : ℕ × List ℕ × Bool) (r : Result (Item × Reached) Flaw) (o : Result A Flaw) →
       lines_of left ≡ line ∷ lines_of after → next_at at (line.1, line.2) ≡ r → Leads at s left →
-      OnLine rules s at.0 r (λ later said. Judges rules later said (lines_left after) o) o → Outcome rules text o
+      OnLine rules s at.0 r (λ later said. Judges rules later said (lines_left after) o) o → JudgesTo rules text o
   by_line at s left after line r o taken is leads judged =
-      let Rest = λ (later : State) (said : S). Judges rules later said (lines_left after) o in
-      let first = subst (λ (x : Result (Item × State) Flaw). OnLine rules s at.0 x Rest o) (sym is) judged in
+      let Rest = λ (later : Reached) (said : S). Judges rules later said (lines_left after) o in
+      let first = subst (λ (x : Result (Item × Reached) Flaw). OnLine rules s at.0 x Rest o) (sym is) judged in
       leads o (subst (λ (ls : List (ℕ × List ℕ × Bool)). Judges rules at s (map (λ l. (l.1, l.2)) ls) o) (sym taken) first)
 
-  pub goes_on : (at : State) (s t : S) (left after : ℕ × List ℕ) (line : ℕ × List ℕ × Bool) (next : Item × State) →
+  pub goes_on : (at : Reached) (s t : S) (left after : ℕ × List ℕ) (line : ℕ × List ℕ × Bool) (next : Item × Reached) →
       lines_of left ≡ line ∷ lines_of after → next_at at (line.1, line.2) ≡ Ok next → rules.agrees s next.0 → t ≡ rules.more s next.0 →
       Leads at s left → Leads next.1 t after
   goes_on at s t left after line next taken is agrees same leads =
@@ -39,23 +39,23 @@ module _ {S A : Type 0} (rules : Rules S A) (text : List ℕ) where
       (inl (agrees, subst (λ (u : S). Judges rules next.1 u (lines_left after) o) same comes))
 
   -- a line that breaks its form
-  pub stops_form : (e : AnswerErr) (at : State) (s : S) (left after : ℕ × List ℕ) (line : ℕ × List ℕ × Bool) →
-      lines_of left ≡ line ∷ lines_of after → Fails e (next_at at (line.1, line.2)) → Leads at s left → Refuses rules text e
+  pub stops_form : (e : AnswerErr) (at : Reached) (s : S) (left after : ℕ × List ℕ) (line : ℕ × List ℕ × Bool) →
+      lines_of left ≡ line ∷ lines_of after → Fails e (next_at at (line.1, line.2)) → Leads at s left → RefusesText rules text e
   stops_form errors.Memory at s left after line taken is leads = tt
   stops_form (errors.Refused flaw) at s left after line taken is leads = by_line at s left after line (Err flaw) (Err flaw) taken is leads refl
 
   -- a line that means something else
-  pub stops_rule : (e : AnswerErr) (at : State) (s t : S) (left after : ℕ × List ℕ) (line : ℕ × List ℕ × Bool) (next : Item × State) →
+  pub stops_rule : (e : AnswerErr) (at : Reached) (s t : S) (left after : ℕ × List ℕ) (line : ℕ × List ℕ × Bool) (next : Item × Reached) →
       lines_of left ≡ line ∷ lines_of after → next_at at (line.1, line.2) ≡ Ok next → Judged rules s at.0 next.0 t (Err e) →
-      Leads at s left → Refuses rules text e
+      Leads at s left → RefusesText rules text e
   stops_rule errors.Memory at s t left after line next taken is judged leads = tt
   stops_rule (errors.Refused flaw) at s t left after line next taken is judged leads =
       by_line at s left after line (Ok next) (Err flaw) taken is leads
       (inr (flaw.kind, judged.0, ap (λ (n : ℕ). Err (record { line = n; kind = flaw.kind })) judged.1))
 
   -- no line is left
-  pub ends : (at : State) (s : S) (left : ℕ × List ℕ) (b : Bool) (o : Result A Flaw) → lines_of left ≡ [] → b ≡ is_end at.1 →
-      AtEnd rules b at.0 s o → Leads at s left → Outcome rules text o
+  pub ends : (at : Reached) (s : S) (left : ℕ × List ℕ) (b : Bool) (o : Result A Flaw) → lines_of left ≡ [] → b ≡ is_end at.1 →
+      AtEnd rules b at.0 s o → Leads at s left → JudgesTo rules text o
   ends at s left b o none is at_end leads =
       let last = subst (λ (c : Bool). AtEnd rules c at.0 s o) is at_end in
       leads o (subst (λ (ls : List (ℕ × List ℕ × Bool)). Judges rules at s (map (λ l. (l.1, l.2)) ls) o) (sym none) last)

@@ -1,7 +1,7 @@
 -- By its place a line `edge` isn't one too many.
 use Rattle.std.proofs.Common.{◌≡◌, ℕ, zero, suc, ◌+◌, List, Ok, length, subst, ap, arith}
 use Rattle.xn_model.specs.Graph.{Graph}
-use Rattle.xn_proof.specs.Forms.{Line, State, alongs_from, edges_from, next_at, node_item, overs_from, paths_from, rows_from, start_item, start_paths, turns_from, words_at}
+use Rattle.xn_proof.specs.Forms.{Line, Reached, alongs_from, edges_from, next_at, node_item, overs_from, paths_from, rows_from, start_item, start_paths, turns_from, words_at}
 use Rattle.xn_kinds.specs.declared.trees.Node.{Node}
 use Rattle.std.specs.Prelude.{Option, Some, None}
 use Rattle.xn_text.specs.Pieces.{words_of}
@@ -83,5 +83,5 @@ module _ (g : Graph) (loops : ℕ) (f : FrontSaid) where
   words_ready (place.Node m rows) i words y e stands = let r = given _ _ y e in subst Ready r.1 (node_ready m rows r.0)
   words_ready place.Nothing i words y e stands = absurd cc
 
-  pub line_ready : (at : State) (line : Line) (next : Item × State) → next_at at line ≡ Ok next → FrontStands g at.1 f → Ready (next.0, next.1.1)
+  pub line_ready : (at : Reached) (line : Line) (next : Item × Reached) → next_at at line ≡ Ok next → FrontStands g at.1 f → Ready (next.0, next.1.1)
   line_ready at line next is stands = words_ready at.1 at.0 (words_of line.0) (next.0, next.1.1) (taken at line next is) stands

@@ -1,7 +1,7 @@
 -- A text of which each line keeps its rules: what its lines say, one after the other.
 use Rattle.std.proofs.Common.{◌≡◌, ℕ, inl, inr, Bool, true, false, cond, List, [], ◌∷◌, ◌++◌, Result, Ok, Err, refl, sym, subst, ap, ◌∙◌}
 use Rattle.xn_kinds.specs.declared.flaws.Flaw.{Flaw}
-use Rattle.xn_proof.specs.Forms.{Line, State, is_end, lines_at, next_at, up_to_end}
+use Rattle.xn_proof.specs.Forms.{Line, Reached, is_end, lines_at, next_at, up_to_end}
 use Rattle.xn_proof.specs.Reading.{◌>>=◌, syntax}
 use Rattle.xn_proof.proofs.Steps.{ok_is}
 use Rattle.xn_proof.specs.declared.item.Item.{Item}
@@ -43,7 +43,7 @@ module _ {S A : Type 0} (rules : Rules S A) where
   -- ---- lines
 
   -- the items of lines that lead from a state and what was said to the end, with this answer
-  pub record Reads (at : State) (s : S) (lines : List Line) (answer : A) : Type 0 where
+  pub record Reads (at : Reached) (s : S) (lines : List Line) (answer : A) : Type 0 where
     pub items : List Item
     pub read : up_to_end (lines_at at lines) ≡ Ok items
     pub agree : AllAgree s items
@@ -53,8 +53,8 @@ module _ {S A : Type 0} (rules : Rules S A) where
   at_end true number s a e = (refl, cc)
   at_end false number s a e = absurd cc
 
-  on_line : (s : S) (number : ℕ) (r : Result (Item × State) Flaw) (Rest : State → S → Type 0) (a : A) →
-      OnLine rules s number r Rest (Ok a) → (next : Item × State) × (r ≡ Ok next) × rules.agrees s next.0 × Rest next.1 (rules.more s next.0)
+  on_line : (s : S) (number : ℕ) (r : Result (Item × Reached) Flaw) (Rest : Reached → S → Type 0) (a : A) →
+      OnLine rules s number r Rest (Ok a) → (next : Item × Reached) × (r ≡ Ok next) × rules.agrees s next.0 × Rest next.1 (rules.more s next.0)
   on_line s number (Err flaw) Rest a e = absurd cc
   on_line s number (Ok next) Rest a e = elim e [
     | inl both ↦ (next, refl, both.0, both.1)
@@ -62,7 +62,7 @@ module _ {S A : Type 0} (rules : Rules S A) where
   ]
 
 -- an item in front of what the lines after it say
-in_front : (x : Item) (o : List Item × State) (items : List Item) → cond (is_end o.1.1) (Ok o.0) (Err (syntax o.1.0)) ≡ Ok items →
+in_front : (x : Item) (o : List Item × Reached) (items : List Item) → cond (is_end o.1.1) (Ok o.0) (Err (syntax o.1.0)) ≡ Ok items →
     cond (is_end o.1.1) (Ok (x ∷ o.0)) (Err (syntax o.1.0)) ≡ Ok (x ∷ items)
 in_front x o items e = by (is_end o.1.1) e
   where
@@ -70,20 +70,20 @@ in_front x o items e = by (is_end o.1.1) e
     by true h = ap (λ (l : List Item). Ok (x ∷ l)) (ok_is o.0 items h)
     by false h = absurd cc
 
-more_read : (x : Item) (r : Result (List Item × State) Flaw) (items : List Item) → up_to_end r ≡ Ok items →
+more_read : (x : Item) (r : Result (List Item × Reached) Flaw) (items : List Item) → up_to_end r ≡ Ok items →
     up_to_end (r >>= λ o. Ok (x ∷ o.0, o.1)) ≡ Ok (x ∷ items)
 more_read x (Ok o) items e = in_front x o items e
 more_read x (Err d) items e = absurd cc
 
 -- the same taken apart
-pub record ReadsOn (at : State) (line : Line) (lines : List Line) (items : List Item) : Type 0 where
-  pub next : Item × State
+pub record ReadsOn (at : Reached) (line : Line) (lines : List Line) (items : List Item) : Type 0 where
+  pub next : Item × Reached
   pub first : next_at at line ≡ Ok next
   pub others : List Item
   pub items_are : items ≡ next.0 ∷ others
   pub rest : up_to_end (lines_at next.1 lines) ≡ Ok others
 
-out_front : (x : Item) (o : List Item × State) (items : List Item) → cond (is_end o.1.1) (Ok (x ∷ o.0)) (Err (syntax o.1.0)) ≡ Ok items →
+out_front : (x : Item) (o : List Item × Reached) (items : List Item) → cond (is_end o.1.1) (Ok (x ∷ o.0)) (Err (syntax o.1.0)) ≡ Ok items →
     (items ≡ x ∷ o.0) × (cond (is_end o.1.1) (Ok o.0) (Err (syntax o.1.0)) ≡ Ok o.0)
 out_front x o items e = by (is_end o.1.1) e
   where
@@ -91,23 +91,23 @@ out_front x o items e = by (is_end o.1.1) e
     by true h = (sym (ok_is (x ∷ o.0) items h), refl)
     by false h = absurd cc
 
-rest_read : (at : State) (line : Line) (lines : List Line) (items : List Item) (next : Item × State) → next_at at line ≡ Ok next →
-    (r : Result (List Item × State) Flaw) → lines_at next.1 lines ≡ r → up_to_end (r >>= λ o. Ok (next.0 ∷ o.0, o.1)) ≡ Ok items → ReadsOn at line lines items
+rest_read : (at : Reached) (line : Line) (lines : List Line) (items : List Item) (next : Item × Reached) → next_at at line ≡ Ok next →
+    (r : Result (List Item × Reached) Flaw) → lines_at next.1 lines ≡ r → up_to_end (r >>= λ o. Ok (next.0 ∷ o.0, o.1)) ≡ Ok items → ReadsOn at line lines items
 rest_read at line lines items next first (Err d) is e = absurd cc
 rest_read at line lines items next first (Ok o) is e =
     let apart = out_front next.0 o items e in
     record { next = next; first = first; others = o.0; items_are = apart.0; rest = ap up_to_end is ∙ apart.1 }
 
-pub reads_on : (at : State) (line : Line) (lines : List Line) (items : List Item) → up_to_end (lines_at at (line ∷ lines)) ≡ Ok items → ReadsOn at line lines items
+pub reads_on : (at : Reached) (line : Line) (lines : List Line) (items : List Item) → up_to_end (lines_at at (line ∷ lines)) ≡ Ok items → ReadsOn at line lines items
 reads_on at line lines items e = by (next_at at line) refl e
   where
-    by : (r : Result (Item × State) Flaw) → next_at at line ≡ r →
+    by : (r : Result (Item × Reached) Flaw) → next_at at line ≡ r →
         up_to_end (r >>= λ first. lines_at first.1 lines >>= λ others. Ok (first.0 ∷ others.0, others.1)) ≡ Ok items → ReadsOn at line lines items
     by (Err d) is h = absurd cc
     by (Ok next) is h = rest_read at line lines items next is (lines_at next.1 lines) refl h
 
 -- no line is left
-none_read : (at : State) (items : List Item) → up_to_end (lines_at at []) ≡ Ok items → (is_end at.1 ≡ true) × (items ≡ [])
+none_read : (at : Reached) (items : List Item) → up_to_end (lines_at at []) ≡ Ok items → (is_end at.1 ≡ true) × (items ≡ [])
 none_read at items e = by (is_end at.1) e
   where
     by : (b : Bool) → cond b (Ok []) (Err (syntax at.0)) ≡ Ok items → (b ≡ true) × (items ≡ [])
@@ -115,7 +115,7 @@ none_read at items e = by (is_end at.1) e
     by false h = absurd cc
 
 module _ {S A : Type 0} (rules : Rules S A) where
-  pub reads : (lines : List Line) (at : State) (s : S) (a : A) → Judges rules at s lines (Ok a) → Reads rules at s lines a
+  pub reads : (lines : List Line) (at : Reached) (s : S) (a : A) → Judges rules at s lines (Ok a) → Reads rules at s lines a
   reads [] at s a j =
       let last = at_end rules (is_end at.1) at.0 s a j in
       record { items = []; read = ap (λ (b : Bool). cond b (Ok []) (Err (syntax at.0))) last.0; agree = tt; answer_is = last.1 }
@@ -125,13 +125,13 @@ module _ {S A : Type 0} (rules : Rules S A) where
       record {
         items = first.0.0 ∷ rest.items;
         read =
-            ap (λ (r : Result (Item × State) Flaw). up_to_end (r >>= λ x. lines_at x.1 lines >>= λ o. Ok (x.0 ∷ o.0, o.1))) first.1
+            ap (λ (r : Result (Item × Reached) Flaw). up_to_end (r >>= λ x. lines_at x.1 lines >>= λ o. Ok (x.0 ∷ o.0, o.1))) first.1
             ∙ more_read first.0.0 (lines_at first.0.1 lines) rest.items rest.read;
         agree = (first.2, rest.agree);
         answer_is = rest.answer_is;
       }
 
-  pub judges : (lines : List Line) (at : State) (s : S) (items : List Item) → up_to_end (lines_at at lines) ≡ Ok items → AllAgree rules s items →
+  pub judges : (lines : List Line) (at : Reached) (s : S) (items : List Item) → up_to_end (lines_at at lines) ≡ Ok items → AllAgree rules s items →
       Judges rules at s lines (Ok (rules.answer (all_said rules s items)))
   judges [] at s items e agree =
       let last = none_read at items e in
@@ -141,7 +141,7 @@ module _ {S A : Type 0} (rules : Rules S A) where
       let on = reads_on at line lines items e in
       let all = subst (AllAgree rules s) on.items_are agree in
       let rest = judges lines on.next.1 (rules.more s on.next.0) on.others on.rest all.1 in
-      let Rest = λ (o : Result A Flaw) (later : State) (said : S). Judges rules later said lines o in
+      let Rest = λ (o : Result A Flaw) (later : Reached) (said : S). Judges rules later said lines o in
       let o : Result A Flaw = Ok (rules.answer (all_said rules (rules.more s on.next.0) on.others)) in
-      let judged = subst (λ (r : Result (Item × State) Flaw). OnLine rules s at.0 r (Rest o) o) (sym on.first) (inl (all.0, rest)) in
+      let judged = subst (λ (r : Result (Item × Reached) Flaw). OnLine rules s at.0 r (Rest o) o) (sym on.first) (inl (all.0, rest)) in
       subst (λ (xs : List Item). Judges rules at s (line ∷ lines) (Ok (rules.answer (all_said rules s xs)))) (sym on.items_are) judged

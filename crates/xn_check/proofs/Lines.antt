@@ -12,31 +12,31 @@ use Rattle.xn_proof.specs.declared.item.Item.{Item}
 use Rattle.xn_proof.specs.declared.item.Item.TheVariants as item
 use Rattle.xn_check.specs.FrontSaid.{FrontSaid, front_said}
 use Rattle.xn_check.specs.Judging.{Judged}
-use Rattle.xn_check.specs.Meaning.{Agrees, Fails, FrontAgrees, FrontFails, RowFails}
-use Rattle.xn_check.specs.Parts.{Refuses}
+use Rattle.xn_check.specs.Meaning.{Agrees, Breaks, FrontAgrees, FrontFails, RowFails}
+use Rattle.xn_check.specs.Parts.{RefusesLine}
 use Rattle.xn_check.specs.RowsSaid.{RowsSaid, row_by_list, rows_said}
 use Rattle.xn_check.specs.Said.{Said, said}
 use Rattle.xn_check.specs.Verdict.{check_rules, draw_rules}
 
-refuses_as : (number : ℕ) (Wrong : FlawKind → Type 0) (flaw : Flaw) → Refuses number Wrong (errors.Refused flaw) → Wrong flaw.kind × (flaw.line ≡ number)
+refuses_as : (number : ℕ) (Wrong : FlawKind → Type 0) (flaw : Flaw) → RefusesLine number Wrong (errors.Refused flaw) → Wrong flaw.kind × (flaw.line ≡ number)
 refuses_as number Wrong flaw h =
     subst (λ (f : Flaw). Wrong f.kind × (f.line ≡ number)) (sym h.2) (h.1, refl)
 
 module _ (g h : Graph) (loops number : ℕ) (s : Said) (list : List ℕ) (more : RowsSaid) where
   pub extension_judged : (result : Result (Unit {0}) AnswerErr) → h ≡ g → IfOk result (λ u. more ≡ rows_said s.rows (item.Extension list)) →
-      MatchResult result (λ u. RowHolds h (row_by_list s.rows list)) (Refuses number (RowFails h (length s.rows.whole) (row_by_list s.rows list))) →
+      MatchResult result (λ u. RowHolds h (row_by_list s.rows list)) (RefusesLine number (RowFails h (length s.rows.whole) (row_by_list s.rows list))) →
       Judged (check_rules g loops) s number (item.Extension list) (record s { rows = more }) result
   extension_judged (Ok u) same said judged =
       (subst (λ (i : Graph). RowHolds i (row_by_list s.rows list)) same judged, ap (λ (r : RowsSaid). record s { rows = r }) said)
   extension_judged (Err errors.Memory) same said judged = tt
   extension_judged (Err (errors.Refused flaw)) same said judged =
       refuses_as number (RowFails g (length s.rows.whole) (row_by_list s.rows list)) flaw
-      (subst (λ (i : Graph). Refuses number (RowFails i (length s.rows.whole) (row_by_list s.rows list)) (errors.Refused flaw)) same judged)
+      (subst (λ (i : Graph). RefusesLine number (RowFails i (length s.rows.whole) (row_by_list s.rows list)) (errors.Refused flaw)) same judged)
 
 -- ---- lines up to `drawn`, and those that say nothing
 
 module _ (g : Graph) (loops number : ℕ) (s : Said) (f : FrontSaid) where
-  by_result : (x : Item) → (FrontAgrees g loops s.front x → Agrees g loops s x) → ((k : FlawKind) → FrontFails g loops s.front x k → Fails g loops s x k) →
+  by_result : (x : Item) → (FrontAgrees g loops s.front x → Agrees g loops s x) → ((k : FlawKind) → FrontFails g loops s.front x k → Breaks g loops s x k) →
       record s { front = front_said s.front x } ≡ said s x → (result : Result (Unit {0}) AnswerErr) →
       Judged (draw_rules g loops) s.front number x f result → Judged (check_rules g loops) s number x (record s { front = f }) result
   by_result x agrees fails same (Ok u) judged =

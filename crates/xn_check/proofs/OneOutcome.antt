@@ -6,7 +6,7 @@ use Rattle.xn_draw.proofs.Excluded.{no_flaw, one_flaw}
 use Rattle.xn_model.specs.Graph.{Graph}
 use Rattle.xn_kinds.specs.Bound.{IsBound}
 use Rattle.xn_kinds.specs.Row.{RowHolds}
-use Rattle.xn_kinds.specs.State.{State}
+use Rattle.xn_kinds.specs.State.{Reached}
 use Rattle.xn_kinds.specs.declared.flaws.DrawFlaw.{DrawFlaw}
 use Rattle.xn_kinds.specs.declared.flaws.Flaw.{Flaw}
 use Rattle.xn_kinds.specs.declared.flaws.FlawKind.{FlawKind}
@@ -16,14 +16,14 @@ use Rattle.xn_kinds.specs.declared.rows.Row.{Row}
 use Rattle.xn_kinds.specs.declared.trees.Node.{Node}
 use Rattle.xn_kinds.specs.declared.trees.Node.TheVariants.{Pair, Place, Leaf}
 use Rattle.xn_proof.specs.Forms.{Line, is_end, next_at, start_state, text_lines}
-use Rattle.xn_proof.specs.Forms.{State as LineState}
+use Rattle.xn_proof.specs.Forms.{Reached as LineState}
 use Rattle.xn_proof.specs.declared.item.Item.{Item}
 use Rattle.xn_proof.specs.declared.item.Item.TheVariants as item
 use Rattle.xn_rows.proofs.Excluded.{no_row_flaw, one_row_flaw}
 use Rattle.xn_check.specs.FrontSaid.{FrontSaid}
 use Rattle.xn_check.specs.Judging.{AtEnd, Judges, OnLine, Rules}
 use Rattle.xn_check.specs.Laws.{OneDrawVerdict, OneVerdict}
-use Rattle.xn_check.specs.Meaning.{Agrees, DrawnFails, Fails, FrontAgrees, FrontFails, KeepsFirst, NodeFails, PathFails, RowFails, StepFails, need_of}
+use Rattle.xn_check.specs.Meaning.{Agrees, DrawnFails, Breaks, FrontAgrees, FrontFails, KeepsFirst, NodeFails, PathFails, RowFails, StepFails, need_of}
 use Rattle.xn_check.specs.RowsSaid.{row_by_list, row_by_path}
 use Rattle.xn_check.specs.Said.{Said}
 use Rattle.xn_check.specs.Verdict.{check_rules, draw_rules}
@@ -143,13 +143,13 @@ module _ (g : Graph) (loops : ℕ) where
   bounds_meet : (a b : ℤ) → a ≤ℤ b → b ≤ℤ a → a ≡ b
   bounds_meet a b low high = omega (arith, ints, low, high)
 
-  one_bound : (rows : List Row) (t : State) (d : ℕ) (parts : List (ℕ × ℕ)) (a b : ℤ) → IsBound g rows t d parts a → IsBound g rows t d parts b → a ≡ b
+  one_bound : (rows : List Row) (t : Reached) (d : ℕ) (parts : List (ℕ × ℕ)) (a b : ℤ) → IsBound g rows t d parts a → IsBound g rows t d parts b → a ≡ b
   one_bound rows t d parts a b first second =
       bounds_meet a b
       (subst (λ (v : ℤ). a ≤ℤ v) second.met.2 (first.below_all second.met.0 second.met.1))
       (subst (λ (v : ℤ). b ≤ℤ v) first.met.2 (second.below_all first.met.0 first.met.1))
 
-  step_apart : (k : ℕ) (rows : List Row) (pending : List State) (n : ℕ) (node : Node) (kind : FlawKind) → KeepsFirst g k rows pending node →
+  step_apart : (k : ℕ) (rows : List Row) (pending : List Reached) (n : ℕ) (node : Node) (kind : FlawKind) → KeepsFirst g k rows pending node →
       StepFails g k rows pending n node kind → ⊥
   step_apart k rows [] n node kind keeps fails = keeps
   step_apart k rows (t ∷ pending) n (Pair e f) kind keeps fails = fails.0 keeps
@@ -162,7 +162,7 @@ module _ (g : Graph) (loops : ℕ) where
         is_weak.2 (subst (λ (b : ℤ). need_of k d <ℤ b) (one_bound rows t d parts strong.0 is_weak.0 strong.1 is_weak.1) strong.2)
   ]
 
-  leaf_one : (k : ℕ) (rows : List Row) (t : State) (n d : ℕ) (parts : List (ℕ × ℕ)) (x y : FlawKind) →
+  leaf_one : (k : ℕ) (rows : List Row) (t : Reached) (n d : ℕ) (parts : List (ℕ × ℕ)) (x y : FlawKind) →
       NodeFails g k rows t n (Leaf d parts) x → NodeFails g k rows t n (Leaf d parts) y → x ≡ y
   leaf_one k rows t n d parts x y first second = elim first [
     | inl a ↦ elim second [
@@ -178,7 +178,7 @@ module _ (g : Graph) (loops : ℕ) where
     ]
   ]
 
-  step_one : (k : ℕ) (rows : List Row) (pending : List State) (n : ℕ) (node : Node) (x y : FlawKind) → StepFails g k rows pending n node x →
+  step_one : (k : ℕ) (rows : List Row) (pending : List Reached) (n : ℕ) (node : Node) (x y : FlawKind) → StepFails g k rows pending n node x →
       StepFails g k rows pending n node y → x ≡ y
   step_one k rows [] n node x y first second = first ∙ sym second
   step_one k rows (t ∷ pending) n (Pair e f) x y first second = first.1 ∙ sym second.1
@@ -187,7 +187,7 @@ module _ (g : Graph) (loops : ℕ) where
 
   -- ---- all lines
 
-  all_apart : (s : Said) (x : Item) (kind : FlawKind) → Agrees g loops s x → Fails g loops s x kind → ⊥
+  all_apart : (s : Said) (x : Item) (kind : FlawKind) → Agrees g loops s x → Breaks g loops s x kind → ⊥
   all_apart s (item.Path p) kind agrees fails = path_apart _ (row_by_path s.rows p) kind agrees fails
   all_apart s (item.Extension l) kind agrees fails = no_row_flaw g (row_by_list s.rows l) agrees fails.0 fails.1
   all_apart s (item.Step n) kind agrees fails = step_apart s.front.lower s.rows.whole s.tree.pending s.tree.nodes n kind agrees fails
@@ -207,7 +207,7 @@ module _ (g : Graph) (loops : ℕ) where
   all_apart s (item.Branch b) kind agrees fails = fails
   all_apart s item.Tree kind agrees fails = fails
 
-  all_one : (s : Said) (x : Item) (k l : FlawKind) → Fails g loops s x k → Fails g loops s x l → k ≡ l
+  all_one : (s : Said) (x : Item) (k l : FlawKind) → Breaks g loops s x k → Breaks g loops s x l → k ≡ l
   all_one s (item.Path p) k l first second = path_one _ (row_by_path s.rows p) k l first second
   all_one s (item.Extension n) k l first second = row_one _ (row_by_list s.rows n) k l first second
   all_one s (item.Step n) k l first second = step_one s.front.lower s.rows.whole s.tree.pending s.tree.nodes n k l first second

@@ -7,13 +7,13 @@ use Rattle.xn_kinds.specs.declared.rows.Evidence.{Evidence}
 use Rattle.xn_kinds.specs.declared.rows.Row.{Row}
 use Rattle.xn_proof.specs.declared.flaw.AnswerErr.{AnswerErr}
 use Rattle.xn_check.specs.Meaning.{PathFails, RowFails}
-use Rattle.xn_check.specs.Parts.{IsRowsKept, Refuses, RowsKept, rows_kept}
+use Rattle.xn_check.specs.Parts.{IsRowsKept, RefusesLine, RowsKept, rows_kept}
 use Rattle.xn_check.specs.RowsSaid.{RowsSaid, evidence_of, paths_for, row_by_path, row_of}
 
 -- what is said of a row is said of the same row
-pub same_refusal : (number : ℕ) (e : AnswerErr) (g h : Graph) (i j : ℕ) (x y : Row) → g ≡ h → i ≡ j → x ≡ y → Refuses number (RowFails g i x) e → Refuses number (RowFails h j y) e
+pub same_refusal : (number : ℕ) (e : AnswerErr) (g h : Graph) (i j : ℕ) (x y : Row) → g ≡ h → i ≡ j → x ≡ y → RefusesLine number (RowFails g i x) e → RefusesLine number (RowFails h j y) e
 same_refusal number e g h i j x y gs is xs refused =
-    subst (λ a. Refuses number (RowFails a j y) e) gs (subst (λ a. Refuses number (RowFails g a y) e) is (subst (λ a. Refuses number (RowFails g i a) e) xs refused))
+    subst (λ a. RefusesLine number (RowFails a j y) e) gs (subst (λ a. RefusesLine number (RowFails g a y) e) is (subst (λ a. RefusesLine number (RowFails g i a) e) xs refused))
 
 -- one whole row more, which holds
 pub one_more : (v : RowsKept) (h : Graph) (items : List Row) (row : Row) → IsRowsKept v → v.graph ≡ h → RowHolds h row → items ≡ v.said.whole ++ row ∷ [] →
@@ -26,10 +26,10 @@ one_more v h items row kept gs holds is =
 
 -- what is judged of a row is judged of the path that makes it whole
 abbrev pub Judged : Graph → ℕ → Row → ℕ → Result (Unit {0}) AnswerErr → Type 0
-Judged g i row number result = MatchResult result (λ _. RowHolds g row) (Refuses number (RowFails g i row))
+Judged g i row number result = MatchResult result (λ _. RowHolds g row) (RefusesLine number (RowFails g i row))
 
 abbrev pub JudgedIf : Graph → ℕ → Option Row → ℕ → Result (Unit {0}) AnswerErr → Type 0
-JudgedIf g i row number result = MatchResult result (λ _. IfSome row (RowHolds g)) (Refuses number (PathFails g i row))
+JudgedIf g i row number result = MatchResult result (λ _. IfSome row (RowHolds g)) (RefusesLine number (PathFails g i row))
 
 judged_if : (g : Graph) (i : ℕ) (row : Row) (number : ℕ) (result : Result (Unit {0}) AnswerErr) → Judged g i row number result → JudgedIf g i (Some row) number result
 judged_if g i row number result judged = judged

@@ -16,7 +16,7 @@ use Rattle.xn_proof.specs.declared.item.Item.{Item}
 use Rattle.xn_proof.proofs.AnswerLines.{lines_say_the_answer}
 use Rattle.xn_proof.proofs.AnswerTexts.{answer_takes, spelled_is_read}
 use Rattle.xn_proof.proofs.Steps.{bind_ok, ok_is}
-use Rattle.xn_check.specs.Judging.{Outcome, Rules}
+use Rattle.xn_check.specs.Judging.{JudgesTo, Rules}
 use Rattle.xn_check.proofs.Items.{AllAgree, all_said, judges, reads}
 
 -- ---- a text has fewer lines than line numbers
@@ -49,7 +49,7 @@ module _ {S A : Type 0} (rules : Rules S A) (text : List ℕ) (out : A) where
     pub agree : AllAgree rules rules.start (items_of answer)
     pub out_is : out ≡ rules.answer (all_said rules rules.start (items_of answer))
 
-  pub says : length text < 2 ^ 63 → Outcome rules text (Ok out) → SaysAnswer
+  pub says : length text < 2 ^ 63 → JudgesTo rules text (Ok out) → SaysAnswer
   says short verdict =
       let read = reads rules (text_lines text) start_state rules.start out verdict in
       let whole : (answer_of text >>= λ a. Ok (items_of a)) ≡ Ok read.items = sym (lines_say_the_answer text (few_lines text short)) ∙ read.read in
@@ -64,10 +64,10 @@ module _ {S A : Type 0} (rules : Rules S A) (text : List ℕ) (out : A) where
         out_is = read.answer_is ∙ ap (λ (xs : List Item). rules.answer (all_said rules rules.start xs)) same;
       }
 
-  pub said_so : length text < 2 ^ 63 → SaysAnswer → Outcome rules text (Ok out)
+  pub said_so : length text < 2 ^ 63 → SaysAnswer → JudgesTo rules text (Ok out)
   said_so short h =
       let is : answer_of text ≡ Ok h.answer = ap answer_of h.text_is ∙ spelled_is_read h.answer h.well_formed in
       let read : up_to_end (lines_at start_state (text_lines text)) ≡ Ok (items_of h.answer) =
       lines_say_the_answer text (few_lines text short) ∙ ap (λ (r : Result Answer Flaw). r >>= λ a. Ok (items_of a)) is in
-      subst (λ (x : A). Outcome rules text (Ok x)) (sym h.out_is)
+      subst (λ (x : A). JudgesTo rules text (Ok x)) (sym h.out_is)
       (judges rules (text_lines text) start_state rules.start (items_of h.answer) read h.agree)

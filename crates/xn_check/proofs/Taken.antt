@@ -2,7 +2,7 @@
 use Rattle.std.proofs.Common.{◌≡◌, ◌+◌, ◌-◌, ◌^◌, Bool, true, false, cond, Result, Ok, Err, min, ap, ◌∙◌}
 use Rattle.xn_kinds.specs.declared.flaws.Flaw.{Flaw}
 use Rattle.xn_text.specs.Pieces.{words_of}
-use Rattle.xn_proof.specs.Forms.{Line, State, is_end, next_at, rule_at, words_at}
+use Rattle.xn_proof.specs.Forms.{Line, Reached, is_end, next_at, rule_at, words_at}
 use Rattle.xn_proof.specs.Reading.{◌>>=◌}
 use Rattle.xn_proof.proofs.Steps.{bind_ok, ok_is}
 use Rattle.xn_proof.specs.declared.item.Item.{Item}
@@ -19,14 +19,14 @@ tests true c d f w x e = absurd cc
 tests false true d f w x e = e
 tests false false d f w x e = absurd cc
 
-pub taken : (at : State) (line : Line) (next : Item × State) → next_at at line ≡ Ok next → words_at at.1 at.0 (words_of line.0) ≡ Ok (next.0, next.1.1)
+pub taken : (at : Reached) (line : Line) (next : Item × Reached) → next_at at line ≡ Ok next → words_at at.1 at.0 (words_of line.0) ≡ Ok (next.0, next.1.1)
 taken at line next e =
     let first = bind_ok (rule_at at.1 at.0 line) _ next e in
     tests (is_end at.1) line.1 _ _ _ (next.0, next.1.1)
-    (first.1 ∙ ap (λ (n : Item × State). Ok (n.0, n.1.1)) (ok_is _ next first.2))
+    (first.1 ∙ ap (λ (n : Item × Reached). Ok (n.0, n.1.1)) (ok_is _ next first.2))
 
 -- the number of the next line
-pub counts_on : (at : State) (line : Line) (next : Item × State) → next_at at line ≡ Ok next → min (at.0 + 1) (2 ^ 64 - 1) ≡ next.1.0
+pub counts_on : (at : Reached) (line : Line) (next : Item × Reached) → next_at at line ≡ Ok next → min (at.0 + 1) (2 ^ 64 - 1) ≡ next.1.0
 counts_on at line next e =
     let first = bind_ok (rule_at at.1 at.0 line) (λ x. Ok (x.0, (min (at.0 + 1) (2 ^ 64 - 1), x.1))) next e in
-    ap (λ (n : Item × State). n.1.0) (ok_is (first.0.0, (min (at.0 + 1) (2 ^ 64 - 1), first.0.1)) next first.2)
+    ap (λ (n : Item × Reached). n.1.0) (ok_is (first.0.0, (min (at.0 + 1) (2 ^ 64 - 1), first.0.1)) next first.2)

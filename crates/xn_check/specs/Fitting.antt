@@ -1,6 +1,6 @@
 -- What is known of the rows at each place, by the forms of the lines so far.
 use Rattle.std.specs.Prelude.{◌≡◌, ℕ, ◌+◌, ◌≤◌, ◌^◌, [], length, Ok}
-use Rattle.xn_proof.specs.Forms.{Line, State, next_at}
+use Rattle.xn_proof.specs.Forms.{Line, Reached, next_at}
 use Rattle.xn_proof.specs.declared.item.Item.{Item}
 use Rattle.xn_proof.specs.declared.places.Block.{Block}
 use Rattle.xn_proof.specs.declared.places.Place.{Place}
@@ -30,5 +30,5 @@ RowsFit p s = (s.whole ≡ []) × (s.paths ≡ [])
 -- it is known at the start, and after each line that keeps its rule, which may come after those before it
 pub record FormsFitRows : Type 0 where
   pub start : RowsFit place.Header no_rows
-  pub next : (at : State) (line : Line) (s : RowsSaid) (x : Item) (later : State) → RowsFit at.1 s → next_at at line ≡ Ok (x, later) →
+  pub next : (at : Reached) (line : Line) (s : RowsSaid) (x : Item) (later : Reached) → RowsFit at.1 s → next_at at line ≡ Ok (x, later) →
       MayCome s x × RowsFit later.1 (rows_said s x)

@@ -4,21 +4,21 @@ use Rattle.xn_model.specs.Graph.{Graph}
 use Rattle.xn_kinds.specs.declared.drawings.Drawing.{Drawing}
 use Rattle.xn_proof.specs.declared.flaw.AnswerErr.{AnswerErr}
 use Rattle.xn_proof.specs.declared.flaw.AnswerErr.TheVariants as errors
-use Rattle.xn_check.specs.Judging.{Outcome, Rules}
+use Rattle.xn_check.specs.Judging.{JudgesTo, Rules}
 use Rattle.xn_check.specs.Verdict.{check_rules, draw_rules}
 use Rattle.xn_check.specs.declared.verdicts.Accepted.{Accepted}
 
 -- a text is refused by the rules for its first flaw, or memory ran out
-abbrev pub Refuses : {S A : Type 0} → Rules S A → List ℕ → AnswerErr → Type 0
-Refuses rules text (errors.Refused flaw) = Outcome rules text (Err flaw)
-Refuses rules text errors.Memory = Unit {0}
+abbrev pub RefusesText : {S A : Type 0} → Rules S A → List ℕ → AnswerErr → Type 0
+RefusesText rules text (errors.Refused flaw) = JudgesTo rules text (Err flaw)
+RefusesText rules text errors.Memory = Unit {0}
 
 -- what a function returned is the verdict, unless memory ran out
 abbrev pub GivesVerdict : Graph → ℕ → List ℕ → Result Accepted AnswerErr → Type 0
-GivesVerdict g loops text (Ok a) = Outcome (check_rules g loops) text (Ok (a.lower, a.upper))
-GivesVerdict g loops text (Err e) = Refuses (check_rules g loops) text e
+GivesVerdict g loops text (Ok a) = JudgesTo (check_rules g loops) text (Ok (a.lower, a.upper))
+GivesVerdict g loops text (Err e) = RefusesText (check_rules g loops) text e
 
 -- the same of the drawing alone
 abbrev pub GivesDrawing : Graph → ℕ → List ℕ → Result Drawing AnswerErr → Type 0
-GivesDrawing g loops text (Ok drawing) = Outcome (draw_rules g loops) text (Ok drawing)
-GivesDrawing g loops text (Err e) = Refuses (draw_rules g loops) text e
+GivesDrawing g loops text (Ok drawing) = JudgesTo (draw_rules g loops) text (Ok drawing)
+GivesDrawing g loops text (Err e) = RefusesText (draw_rules g loops) text e

@@ -2,7 +2,7 @@
 use Rattle.std.specs.Prelude.{◌≡◌, ◌⊎◌, ℕ, Bool, true, false, List, [], ◌∷◌, Result, Ok, Err}
 use Rattle.xn_kinds.specs.declared.flaws.Flaw.{Flaw}
 use Rattle.xn_kinds.specs.declared.flaws.FlawKind.{FlawKind}
-use Rattle.xn_proof.specs.Forms.{Line, State, is_end, next_at, start_state, text_lines}
+use Rattle.xn_proof.specs.Forms.{Line, Reached, is_end, next_at, start_state, text_lines}
 use Rattle.xn_proof.specs.Reading.{syntax}
 use Rattle.xn_proof.specs.declared.flaw.AnswerErr.{AnswerErr}
 use Rattle.xn_proof.specs.declared.flaw.AnswerErr.TheVariants as errors
@@ -25,21 +25,21 @@ AtEnd rules true number s outcome = outcome ≡ Ok (rules.answer s)
 AtEnd rules false number s outcome = outcome ≡ Err (syntax number)
 
 -- a line with this number: it breaks its form, or it means what it must and the rest is judged, or it means something else
-abbrev pub OnLine : {S A : Type 0} → Rules S A → S → ℕ → Result (Item × State) Flaw → (State → S → Type 0) → Result A Flaw → Type 0
+abbrev pub OnLine : {S A : Type 0} → Rules S A → S → ℕ → Result (Item × Reached) Flaw → (Reached → S → Type 0) → Result A Flaw → Type 0
 OnLine rules s number (Err flaw) Rest outcome = outcome ≡ Err flaw
 OnLine rules s number (Ok next) Rest outcome =
     (rules.agrees s next.0 × Rest next.1 (rules.more s next.0))
     ⊎ ((kind : FlawKind) × rules.fails s next.0 kind × (outcome ≡ Err (record { line = number; kind = kind })))
 
 -- the outcome of the lines after those that led to a state and said this
-abbrev pub Judges : {S A : Type 0} → Rules S A → State → S → List Line → Result A Flaw → Type 0
+abbrev pub Judges : {S A : Type 0} → Rules S A → Reached → S → List Line → Result A Flaw → Type 0
 Judges rules at s [] outcome = AtEnd rules (is_end at.1) at.0 s outcome
 Judges rules at s (line ∷ lines) outcome =
     OnLine rules s at.0 (next_at at line) (λ later said. Judges rules later said lines outcome) outcome
 
 -- the outcome of a text
-abbrev pub Outcome : {S A : Type 0} → Rules S A → List ℕ → Result A Flaw → Type 0
-Outcome rules text outcome = Judges rules start_state rules.start (text_lines text) outcome
+abbrev pub JudgesTo : {S A : Type 0} → Rules S A → List ℕ → Result A Flaw → Type 0
+JudgesTo rules text outcome = Judges rules start_state rules.start (text_lines text) outcome
 
 -- a line with this number was judged by what was said: it means what it must and is kept, or is refused for what is wrong with
 -- it, or memory ran out

@@ -1,6 +1,6 @@
 -- What texts are that the verdicts accept.
 use Rattle.std.specs.Prelude.{◌≡◌, ℕ, ◌^◌, ◌<◌, ◌↔◌, List, length, Result, Ok}
-use Rattle.xn_model.specs.Drawing.{IsAtMost, IsListedDrawing, Least, order_of}
+use Rattle.xn_model.specs.Drawing.{IsAtMost, IsListedDrawing, IsAtLeast, order_of}
 use Rattle.xn_model.specs.Graph.{Graph, IsGraph}
 use Rattle.xn_model.specs.Orders.{crossing_count}
 use Rattle.xn_kinds.specs.Tree.{Accepts}
@@ -67,4 +67,4 @@ AcceptedHasProof = (g : Graph) (loops : ℕ) (text : List ℕ) (lower upper : �
 -- a text that is accepted bounds the crossing number of its graph from both sides
 abbrev pub AcceptedTextBounds : Type 0
 AcceptedTextBounds =
-    (g : Graph) (loops : ℕ) (text : List ℕ) (lower upper : ℕ) → IsGraph g → Verdict g loops text (Ok (lower, upper)) → Least g lower × IsAtMost g upper
+    (g : Graph) (loops : ℕ) (text : List ℕ) (lower upper : ℕ) → IsGraph g → Verdict g loops text (Ok (lower, upper)) → IsAtLeast g lower × IsAtMost g upper

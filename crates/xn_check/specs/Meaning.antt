@@ -106,9 +106,9 @@ StepFails g k rows [] n node kind = kind ≡ kinds.TreeShape n
 StepFails g k rows (t ∷ pending) n node kind = NodeFails g k rows t n node kind
 
 -- the line means something else, and this is wrong with it
-abbrev pub Fails : Graph → ℕ → Said → Item → FlawKind → Type 0
-Fails g loops s (item.Path path) kind = PathFails g (length s.rows.whole) (row_by_path s.rows path) kind
-Fails g loops s (item.Extension list) kind = RowFails g (length s.rows.whole) (row_by_list s.rows list) kind
-Fails g loops s (item.Step node) kind = StepFails g s.front.lower s.rows.whole s.tree.pending s.tree.nodes node kind
-Fails g loops s item.End kind = (s.tree.pending ≢ []) × (kind ≡ kinds.TreeShape s.tree.nodes)
-Fails g loops s line kind = FrontFails g loops s.front line kind
+abbrev pub Breaks : Graph → ℕ → Said → Item → FlawKind → Type 0
+Breaks g loops s (item.Path path) kind = PathFails g (length s.rows.whole) (row_by_path s.rows path) kind
+Breaks g loops s (item.Extension list) kind = RowFails g (length s.rows.whole) (row_by_list s.rows list) kind
+Breaks g loops s (item.Step node) kind = StepFails g s.front.lower s.rows.whole s.tree.pending s.tree.nodes node kind
+Breaks g loops s item.End kind = (s.tree.pending ≢ []) × (kind ≡ kinds.TreeShape s.tree.nodes)
+Breaks g loops s line kind = FrontFails g loops s.front line kind

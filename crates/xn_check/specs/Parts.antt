@@ -15,9 +15,9 @@ use Rattle.xn_check.specs.RowsSaid.{RowsSaid}
 use Rattle.xn_check.specs.TreeSaid.{TreeSaid}
 
 -- the line with this number is refused for what is wrong, or memory was wanting
-abbrev pub Refuses : ℕ → (FlawKind → Type 0) → AnswerErr → Type 0
-Refuses number Wrong (errors.Refused flaw) = (kind : FlawKind) × Wrong kind × (flaw ≡ record { line = number; kind = kind })
-Refuses number Wrong errors.Memory = Unit {0}
+abbrev pub RefusesLine : ℕ → (FlawKind → Type 0) → AnswerErr → Type 0
+RefusesLine number Wrong (errors.Refused flaw) = (kind : FlawKind) × Wrong kind × (flaw ≡ record { line = number; kind = kind })
+RefusesLine number Wrong errors.Memory = Unit {0}
 
 -- ---- what the form of a line says beforehand
 

@@ -3,8 +3,8 @@ use Rattle.std.specs.Prelude.{ℕ, List, Result}
 use Rattle.xn_model.specs.Graph.{Graph}
 use Rattle.xn_kinds.specs.declared.drawings.Drawing.{Drawing}
 use Rattle.xn_kinds.specs.declared.flaws.Flaw.{Flaw}
-use Rattle.xn_check.specs.Judging.{Outcome, Rules}
-use Rattle.xn_check.specs.Meaning.{Agrees, Fails, FrontAgrees, FrontFails}
+use Rattle.xn_check.specs.Judging.{JudgesTo, Rules}
+use Rattle.xn_check.specs.Meaning.{Agrees, Breaks, FrontAgrees, FrontFails}
 use Rattle.xn_check.specs.FrontSaid.{FrontSaid, drawing_said, front_said, no_front}
 use Rattle.xn_check.specs.Said.{Said, nothing_said, said}
 
@@ -14,7 +14,7 @@ check_rules g loops = record {
   start = nothing_said;
   more = said;
   agrees = Agrees g loops;
-  fails = Fails g loops;
+  fails = Breaks g loops;
   answer = λ s. (s.front.lower, s.front.upper);
 }
 
@@ -30,8 +30,8 @@ draw_rules g loops = record {
 
 -- the bounds of an answer that is accepted, or the first flaw
 abbrev pub Verdict : Graph → ℕ → List ℕ → Result (ℕ × ℕ) Flaw → Type 0
-Verdict g loops text outcome = Outcome (check_rules g loops) text outcome
+Verdict g loops text outcome = JudgesTo (check_rules g loops) text outcome
 
 -- the drawing of an answer of which no more is judged, or the first flaw
 abbrev pub DrawVerdict : Graph → ℕ → List ℕ → Result Drawing Flaw → Type 0
-DrawVerdict g loops text outcome = Outcome (draw_rules g loops) text outcome
+DrawVerdict g loops text outcome = JudgesTo (draw_rules g loops) text outcome

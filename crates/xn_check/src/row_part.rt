@@ -3,7 +3,7 @@ ghost use Rattle.std.specs.Prelude.{◌≡◌, ◌+◌, ◌==◌, ◌++◌, [], 
 ghost use Rattle.xn_list.specs.Lists.{lists_of};
 ghost use Rattle.xn_kinds.specs.Row.{RowHolds};
 ghost use Rattle.xn_check.specs.Meaning.{PathFails, RowFails};
-ghost use Rattle.xn_check.specs.Parts.{HasRoom, IsBranch, Refuses};
+ghost use Rattle.xn_check.specs.Parts.{HasRoom, IsBranch, RefusesLine};
 ghost use Rattle.xn_rows.specs.Holding.{HasPaths, HasSizes};
 ghost use Rattle.xn_check.specs.RowsSaid.{evidence_of, no_rows, paths_for, row_by_list, row_by_path, row_of, rows_said, with_row};
 
@@ -99,7 +99,7 @@ impl<'a> RowPart<'a> {
         ensures said { IfOk result (λ _. self.new.said ≡ rows_said self.old.said (Item.Path path.now)) }
         ensures judged { let row = row_by_path self.old.said path.now in
             MatchResult result (λ _. IfSome row (RowHolds self.old.graph))
-            (Refuses number (PathFails self.old.graph (length self.old.said.whole) row)) }
+            (RefusesLine number (PathFails self.old.graph (length self.old.said.whole) row)) }
     {
         let last = self.comes_to_last();
         self.add_path(alloc, path)?;
@@ -122,7 +122,7 @@ impl<'a> RowPart<'a> {
         ensures said { IfOk result (λ _. self.new.said ≡ rows_said self.old.said (Item.Extension list)) }
         ensures judged { let row = row_by_list self.old.said list in
             MatchResult result (λ _. RowHolds self.old.graph row)
-            (Refuses number (RowFails self.old.graph (length self.old.said.whole) row)) }
+            (RefusesLine number (RowFails self.old.graph (length self.old.said.whole) row)) }
     {
         self.close(alloc, number, Evidence::Extension { list })
     }
@@ -162,7 +162,7 @@ impl<'a> RowPart<'a> {
         ensures said { IfOk result (λ _. self.new.said ≡ with_row (Some (row_of self.old.said evidence)) self.old.said) }
         ensures judged { let row = row_of self.old.said evidence in
             MatchResult result (λ _. RowHolds self.old.graph row)
-            (Refuses number (RowFails self.old.graph (length self.old.said.whole) row)) }
+            (RefusesLine number (RowFails self.old.graph (length self.old.said.whole) row)) }
     {
         let place = self.whole.len() as u32;
         let row = self.take_row(alloc, evidence);
@@ -208,7 +208,7 @@ fn test_row(
     place: u32,
 ) -> Result<(), AnswerErr>
     requires { HasSizes row.now }
-    ensures { MatchResult result (λ _. RowHolds graph.now row.now) (Refuses number (RowFails graph.now place row.now)) }
+    ensures { MatchResult result (λ _. RowHolds graph.now row.now) (RefusesLine number (RowFails graph.now place row.now)) }
 {
     match row_holds(alloc, graph, row) {
         Ok(()) => Ok(()),

@@ -7,7 +7,7 @@ ghost use Rattle.xn_kinds.specs.declared.flaws.FlawKind.TheVariants.{TreeShape, 
 ghost use Rattle.xn_kinds.specs.declared.trees.Node.TheVariants.{Leaf};
 ghost use Rattle.xn_tree.specs.Walk.{pending_of};
 ghost use Rattle.xn_check.specs.Meaning.{KeepsFirst, StepFails, need_of};
-ghost use Rattle.xn_check.specs.Parts.{IsInRange, Refuses, tree_of};
+ghost use Rattle.xn_check.specs.Parts.{IsInRange, RefusesLine, tree_of};
 ghost use Rattle.xn_check.specs.TreeSaid.{no_tree, tree_said};
 
 use crate::refusals::refused;
@@ -62,7 +62,7 @@ impl TreePart {
         ensures said { IfOk result (λ _. tree_of self.new ≡ tree_said (tree_of self.old) (Item.Step node.now)) }
         ensures judged { let rows = rows.now.said.whole in
             MatchResult result (λ _. KeepsFirst self.old.walk.graph lower rows (pending_of self.old.walk) node.now)
-            (Refuses number (StepFails self.old.walk.graph lower rows (pending_of self.old.walk) self.old.nodes node.now)) }
+            (RefusesLine number (StepFails self.old.walk.graph lower rows (pending_of self.old.walk) self.old.nodes node.now)) }
     {
         if let Node::Leaf { d, parts } = node {
             self.test_leaf(number, lower, rows, *d, parts.as_slice())?;
@@ -99,7 +99,7 @@ impl TreePart {
         requires range { IsInRange (length rows.now.said.whole) (Leaf d parts.now) }
         ensures { let rows = rows.now.said.whole in
             MatchResult result (λ _. KeepsFirst self.now.walk.graph lower rows (pending_of self.now.walk) (Leaf d parts.now))
-            (Refuses number (StepFails self.now.walk.graph lower rows (pending_of self.now.walk) self.now.nodes (Leaf d parts.now))) }
+            (RefusesLine number (StepFails self.now.walk.graph lower rows (pending_of self.now.walk) self.now.nodes (Leaf d parts.now))) }
     {
         if self.walk.is_finished() {
             return Err(self.misshapen(number));

@@ -12,7 +12,7 @@ use Rattle.xn_graph.specs.Counts.{euler_of}
 use Rattle.xn_kinds.specs.declared.flaws.DrawFlaw.{DrawFlaw}
 use Rattle.xn_kinds.specs.declared.flaws.DrawFlaw.TheVariants.{Length, Order, Dependent, Rotation, Touch, Genus}
 use Rattle.xn_ring.proofs.Orbits.{cases_reaches}
-use Rattle.xn_map.specs.Rotation.{IsApart, IsFirst, IsRotationFlaw, LeadsRight, LeadsWrong}
+use Rattle.xn_map.specs.Rotation.{IsAstray, IsFirst, IsRotationFlaw, LeadsRight, LeadsWrong}
 use Rattle.xn_map.proofs.Rotations.{IsMap-from_right, Permutes-from_right, least_dart}
 use Rattle.xn_draw.specs.Entries.{IsDependent, IsDisorderly, NamesFirst, NoEntry, NoEntryOf}
 use Rattle.xn_draw.specs.Flaws.{HasCrossings, HasLengths, HasMap, HasOrder, HasOrders, IsFirstTouch, IsFlaw, IsTouch, drawn_web}
@@ -114,7 +114,7 @@ decide_wrong_turn ends next d = elim (cases_lt (next d) (2 * length ends)) [
       | inr other ↦ elim other [ inl elsewhere ↦ elsewhere same | inr taken ↦ free taken.0 taken.1 taken.2 ]
     ]
 
-decide_apart : (ends : List (ℕ × ℕ)) (next : ℕ → ℕ) → LeadsRight ends next → (d : ℕ) → d < 2 * length ends → Decided (IsApart ends next d)
+decide_apart : (ends : List (ℕ × ℕ)) (next : ℕ → ℕ) → LeadsRight ends next → (d : ℕ) → d < 2 * length ends → Decided (IsAstray ends next d)
 decide_apart ends next right d low =
     let least = least_dart ends d in
     let c = least.0 in
@@ -128,7 +128,7 @@ decide_apart ends next right d low =
 rotation_cases : (nodes : ℕ) (ends : List (ℕ × ℕ)) (next : ℕ → ℕ) → EndsIn nodes ends → IsMap nodes ends next ⊎ ((d : ℕ) × IsRotationFlaw ends next d)
 rotation_cases nodes ends next ends_in = elim (first_so (LeadsWrong ends next) (2 * length ends) (λ d low. decide_wrong_turn ends next d)) [
   | inl wrong ↦ inr (wrong.0, (wrong.1, inl wrong.2))
-  | inr right ↦ elim (first_so (IsApart ends next) (2 * length ends) (decide_apart ends next right)) [
+  | inr right ↦ elim (first_so (IsAstray ends next) (2 * length ends) (decide_apart ends next right)) [
     | inl apart ↦ inr (apart.0, (apart.1, inr (right, apart.2)))
     | inr together ↦ inl (IsMap-from_right nodes ends next ends_in right together)
   ]

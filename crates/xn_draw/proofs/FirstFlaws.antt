@@ -3,7 +3,7 @@ use Rattle.std.proofs.Common.{◌≡◌, ℕ, zero, suc, ◌+◌, ◌*◌, ◌<�
 use Rattle.std.proofs.lemmas.Bool.{cases_eq, eq-eqb}
 use Rattle.std.proofs.lemmas.Map.Keys.{IsDistinct-tail, apart_from_distinct}
 use Rattle.xn_model.specs.Drawing.{CrossesAt, IsListedDrawing, order_of}
-use Rattle.xn_model.specs.Map.{IsFlat}
+use Rattle.xn_model.specs.Map.{MeetsEuler}
 use Rattle.xn_model.specs.Graph.{Graph, edges_of}
 use Rattle.xn_model.specs.Lists.{at, has, position_in}
 use Rattle.xn_model.specs.Web.{first_segment}
@@ -12,7 +12,7 @@ use Rattle.std.specs.Prelude.{nat_eq}
 use Rattle.xn_kinds.specs.declared.flaws.DrawFlaw.TheVariants.{Dependent, Order}
 use Rattle.xn_draw.specs.Entries.{IsDependent, IsDisorderly, NamesFirst, NoEntry, list_of}
 use Rattle.xn_draw.specs.Flaws.{HasCrossings, HasLengths, HasMap, HasOrder, IsFlaw, IsFirstTouch, IsTouch, drawn_web}
-use Rattle.xn_draw.specs.Touches.{GoesStraight, NoTouch, TouchesAt, TouchesFirst, first_of}
+use Rattle.xn_draw.specs.Touches.{RunsOn, NoTouch, TouchesAt, TouchesFirst, first_of}
 use Rattle.xn_draw.proofs.Numbered.{has-get_or}
 use Rattle.xn_draw.proofs.OrdersFound.{place_of}
 use Rattle.xn_draw.proofs.Totals.{order_of-at, order_of-same, segment_count}
@@ -73,12 +73,12 @@ module _ (g : Graph) (lists : List (List ℕ)) (next : List ℕ) (has_map : HasM
           let before = before_is e f place.0 place.1 place.2 in
           let s = first_of lists e + place.0 in
           elim (cases_eq (at next (at next (2 * s + 1))) (2 * (s + 1))) [
-            | inl straight ↦ subst (GoesStraight (at next)) (sym before) straight
+            | inl straight ↦ subst (RunsOn (at next)) (sym before) straight
             | inr bent ↦ absurd (none e place.0 place.1 (omega (arith, below, place.2), bent))
           ]
 
-  touch_at : (e f i : ℕ) → i < length (list_of lists e) → at (list_of lists e) i ≡ f → ¬ (CrossesAt (edges_of g) (order_of g lists) (at next) e f) → ¬ (GoesStraight (at next) (first_of lists e + i))
-  touch_at e f i low here touch straight = touch (subst (GoesStraight (at next)) (sym (before_is e f i low here)) straight)
+  touch_at : (e f i : ℕ) → i < length (list_of lists e) → at (list_of lists e) i ≡ f → ¬ (CrossesAt (edges_of g) (order_of g lists) (at next) e f) → ¬ (RunsOn (at next) (first_of lists e + i))
+  touch_at e f i low here touch straight = touch (subst (RunsOn (at next)) (sym (before_is e f i low here)) straight)
 
   -- the first touch by the places in the lists is the first
   pub first_touch : (e f : ℕ) → TouchesFirst lists (at next) e f → IsFirstTouch g lists next e f
@@ -91,7 +91,7 @@ module _ (g : Graph) (lists : List (List ℕ)) (next : List ℕ) (has_map : HasM
         here = (
           omega (arith, touches.0, here),
           ap (λ l. has l f) (order_of-at g lists fits e) ∙ sym (ap (has (list_of lists e)) here) ∙ has-get_or (list_of lists e) i 0 low,
-          λ crosses. touches.1 (subst (GoesStraight (at next)) (before_is e f i low here) crosses),
+          λ crosses. touches.1 (subst (RunsOn (at next)) (before_is e f i low here) crosses),
         );
         before = none_before;
       }
@@ -111,7 +111,7 @@ module _ (g : Graph) (lists : List (List ℕ)) (next : List ℕ) (has_map : HasM
 
 -- a drawing, once its map is flat
 pub drawn : (g : Graph) (lists : List (List ℕ)) (next : List ℕ) → HasCrossings g lists next →
-    IsFlat (drawn_web g lists).nodes (drawn_web g lists).ends (at next) → IsListedDrawing g lists next
+    MeetsEuler (drawn_web g lists).nodes (drawn_web g lists).ends (at next) → IsListedDrawing g lists next
 drawn g lists next cross flat =
     let lengths = cross.has_map.has_orders.lengths in
     record {

@@ -3,7 +3,7 @@ ghost use Rattle.std.specs.Prelude.{◌≡◌, ℕ, ◌+◌, ◌*◌, ◌<◌, �
 ghost use Rattle.xn_model.specs.Lists.{at, total};
 ghost use Rattle.xn_model.specs.Web.{first_segment};
 ghost use Rattle.xn_draw.specs.Entries.{list_of};
-ghost use Rattle.xn_draw.specs.Touches.{GoesStraight, IsLeastTouch, NoTouch, TouchesFirst};
+ghost use Rattle.xn_draw.specs.Touches.{RunsOn, IsLeastTouch, NoTouch, TouchesFirst};
 
 use xn_kinds::Orders;
 use xn_map::Map;
@@ -45,7 +45,7 @@ fn touched_by(orders: &Orders, map: &Map, e: u32, first: u32) -> Option<u32>
 fn goes_straight(map: &Map, s: u32) -> bool
     requires few { length map.now.next ≤ 2 ^ 31 }
     requires dart { 2 * (s + 1) < length map.now.next }
-    ensures { IsTrue result ↔ GoesStraight (at map.now.next) s }
+    ensures { IsTrue result ↔ RunsOn (at map.now.next) s }
 {
     map.next(map.next(2 * s + 1)) == 2 * s + 2
 }

@@ -2,7 +2,7 @@
 use Rattle.std.proofs.Common.{◌≡◌, ◌≢◌, ℕ, zero, suc, ◌+◌, ◌*◌, ◌/◌, ◌%◌, ◌<◌, ◌≤◌, ◌⊎◌, inl, inr, length, min, refl, sym, ◌∙◌, ap, subst, arith}
 use Rattle.std.proofs.lemmas.Bool.{cases_eq, cases_order, cond-true, cond-false, eq-eqb, ne_eqb}
 use Rattle.xn_model.specs.Lists.{at}
-use Rattle.xn_model.specs.Map.{IsFlat, IsMap, reverse_of, tail_of}
+use Rattle.xn_model.specs.Map.{MeetsEuler, IsMap, reverse_of, tail_of}
 use Rattle.xn_model.specs.Permutation.{iterate}
 use Rattle.xn_model.proofs.Darts.{cases_dart, reverse-even, reverse-odd}
 use Rattle.xn_genus.specs.Deletion.{dart_before}
@@ -524,6 +524,6 @@ resolves m listed v how x z cut split splits once smooths new again =
 pub resolved_flat : (m : ListedMap) → IsListedMap m → (v : ℕ) (how : Way) (new : ListedMap) → Resolves m v how new → StaysFlat m new
 resolved_flat m listed v how new done flat =
     let M : ℕ → Type 0 = λ k. IsMap k m.web.ends (at m.next) in
-    let F : ℕ → Type 0 = λ k. IsFlat k m.web.ends (at m.next) in
+    let F : ℕ → Type 0 = λ k. MeetsEuler k m.web.ends (at m.next) in
     resolution_flat new.web.nodes (cut_at how done.first done.second) (cut_at how done.third done.fourth) m.web.ends new.web.ends (at m.next) (at new.next)
     (subst M done.fewer listed.is_map) done.resolved (subst F done.fewer flat)

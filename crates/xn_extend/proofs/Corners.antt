@@ -3,7 +3,7 @@ use Rattle.std.proofs.Common.{◌≡◌, ◌≢◌, ◌==◌, ℕ, suc, ◌+◌,
 use Rattle.std.proofs.lemmas.Bool.{eq-eqb, eqb-true, or_cases, or_left, or_right}
 use Rattle.std.proofs.lemmas.List.{length-map}
 use Rattle.xn_model.specs.Graph.{HasNoLoop, ends_at, touches}
-use Rattle.xn_model.specs.Insertion.{IsCorner, is_old}
+use Rattle.xn_model.specs.Insertion.{IsOldCorner, is_old}
 use Rattle.xn_model.specs.Lists.{at}
 use Rattle.xn_model.specs.Map.{tail_of}
 use Rattle.xn_model.proofs.Darts.{cases_dart, tail-even, tail-odd}
@@ -95,7 +95,7 @@ module _ (ends : List (ℕ × ℕ)) (list : List ℕ) (apart : AreSegmentsApart 
 
     -- ---- corners
 
-    pub listed_corner : (k c : ℕ) → k < 2 * length listed → IsCorner ends (done_of list t) (e k) c → (y : ℕ) × (y < 2 * t) × (e y ≡ c) × (tail_of listed y ≡ tail_of listed k)
+    pub listed_corner : (k c : ℕ) → k < 2 * length listed → IsOldCorner ends (done_of list t) (e k) c → (y : ℕ) × (y < 2 * t) × (e y ≡ c) × (tail_of listed y ≡ tail_of listed k)
     listed_corner k c k_in corner =
         let found = any_done (λ s. s == (c / 2)) list t corner.in_map in
         let i = found.0 in
@@ -108,7 +108,7 @@ module _ (ends : List (ℕ × ℕ)) (list : List ℕ) (apart : AreSegmentsApart 
         part.tails y (omega (arith, y_in, within, size_listed)) ∙ ap (tail_of ends) is ∙ corner.same_node ∙ sym (part.tails k k_in) in
         (y, y_in, is, tails)
 
-    pub corner_listed : (k y : ℕ) → k < 2 * length listed → y < 2 * t → tail_of listed y ≡ tail_of listed k → IsCorner ends (done_of list t) (e k) (e y)
+    pub corner_listed : (k y : ℕ) → k < 2 * length listed → y < 2 * t → tail_of listed y ≡ tail_of listed k → IsOldCorner ends (done_of list t) (e k) (e y)
     corner_listed k y k_in y_in same = record {
       in_map = done_any (λ s. s == (e y / 2)) list t (y / 2) (omega (arith, y_in)) (eq-eqb _ _ (sym (e_half y)));
       same_node = sym (part.tails y (omega (arith, y_in, within, size_listed))) ∙ same ∙ part.tails k k_in;

@@ -8,7 +8,7 @@ use Rattle.std.proofs.Math.ListN.{get_or-map}
 use Rattle.xn_model.specs.Graph.{EndsIn, Graph, HasNoLoop, ends_at}
 use Rattle.xn_model.specs.Insertion.{Extends, GrowsFromFirst, ReachesEnd}
 use Rattle.xn_model.specs.Lists.{at, has}
-use Rattle.xn_model.specs.Map.{IsFlatMap, IsMap, tail_of}
+use Rattle.xn_model.specs.Map.{IsFlat, IsMap, tail_of}
 use Rattle.xn_graph.specs.Limits.{HasNodes, IsLimitedWeb}
 use Rattle.xn_graph.proofs.Ends.{EndsIn-at, EndsIn-from_each}
 use Rattle.xn_genus.specs.Part.{AreSegmentsApart, dart_listed, ends_listed}
@@ -108,7 +108,7 @@ module _ (web : Graph) (list : List ℕ) (no_loop : HasNoLoop web.ends) (grows :
 
   -- what is reached is flat
   flat_end : (next : List ℕ) (f : ℕ → ℕ) → EndsIn web.nodes web.ends → Came listed (2 * length listed) next → Shows web.ends list f next → ReachesEnd web.ends list f →
-      IsFlatMap (listed_web web list) (at next)
+      IsFlat (listed_web web list) (at next)
   flat_end next f ends_in came shows reaches =
       let on = reached_maps_are_flat web.nodes web.ends list f ends_in no_loop grows reaches in
       let part = part_listed web.ends list apart in

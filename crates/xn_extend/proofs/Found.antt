@@ -4,7 +4,7 @@ use Rattle.std.specs.List.{range_with_len, swap}
 use Rattle.std.proofs.lemmas.Bool.{both_ways, cases_eq, false_from_ne_true, or_cases}
 use Rattle.std.proofs.lemmas.List.FromFn.{get_or-range_with_len}
 use Rattle.xn_model.specs.Graph.{HasNoLoop, ends_at}
-use Rattle.xn_model.specs.Insertion.{Extends, FlatInsertion, Follow, IsCorner, ReachesEnd, StandsAfter, is_old}
+use Rattle.xn_model.specs.Insertion.{Extends, FlatInsertion, Follow, IsOldCorner, ReachesEnd, StandsAfter, is_old}
 use Rattle.xn_model.specs.Lists.{at}
 use Rattle.xn_model.specs.Map.{face_step, tail_of}
 use Rattle.xn_model.specs.Permutation.{Reaches}
@@ -145,11 +145,11 @@ module _ (ends : List (ℕ × ℕ)) (list : List ℕ) (apart : AreSegmentsApart 
       | inr other ↦ omega (arith, below, other)
     ]
 
-    corner_k : y < k → tail_of listed y ≡ tail_of listed k → IsCorner ends done (2 * s) (e y)
-    corner_k below same = subst (λ d. IsCorner ends done d (e y)) (e_even ends list apart t) (corner_listed ends list apart t within k y k_in below same)
+    corner_k : y < k → tail_of listed y ≡ tail_of listed k → IsOldCorner ends done (2 * s) (e y)
+    corner_k below same = subst (λ d. IsOldCorner ends done d (e y)) (e_even ends list apart t) (corner_listed ends list apart t within k y k_in below same)
 
-    corner_more : b < k → tail_of listed b ≡ tail_of listed (suc k) → IsCorner ends done (2 * s + 1) (e b)
-    corner_more below same = subst (λ d. IsCorner ends done d (e b)) (e_odd ends list apart t) (corner_listed ends list apart t within (suc k) b low below same)
+    corner_more : b < k → tail_of listed b ≡ tail_of listed (suc k) → IsOldCorner ends done (2 * s + 1) (e b)
+    corner_more below same = subst (λ d. IsOldCorner ends done d (e b)) (e_odd ends list apart t) (corner_listed ends list apart t within (suc k) b low below same)
 
     stands_k : (h : ℕ → ℕ) → y < k → Shows ends list h half → StandsAfter (2 * length ends) (2 * s) (e y) f h
     stands_k h below shows =

@@ -11,7 +11,7 @@ use Rattle.xn_genus.proofs.Kept.{EndsIn-kept, along_kept_to, along_labels}
 use Rattle.xn_genus.specs.Live.{IsFlatOn, IsMapOn, kept, without_segment}
 use Rattle.xn_model.proofs.Darts.{reverse-reverse, tail-even, tail-odd}
 use Rattle.xn_model.specs.Graph.{EndsIn, HasNoLoop, ends_at}
-use Rattle.xn_model.specs.Insertion.{CutsFace, FlatInsertion, HangsAt, IsCorner, is_old}
+use Rattle.xn_model.specs.Insertion.{CutsFace, FlatInsertion, HangsAt, IsOldCorner, is_old}
 use Rattle.xn_model.specs.Lists.{at, has}
 use Rattle.xn_model.specs.Map.{component_labels, face_step, reverse_of, tail_of}
 use Rattle.xn_model.specs.Permutation.{Permutes, Reaches, iterate, without}
@@ -25,7 +25,7 @@ pub record HasCorner (ends : List (ℕ × ℕ)) (done : List ℕ) (after : ℕ �
   pub leads : after corner ≡ d
   pub not_first : corner ≢ d
   pub not_second : corner ≢ e
-  pub is_corner : IsCorner ends done d corner
+  pub is_corner : IsOldCorner ends done d corner
 
 -- a map of the segments that are in and of s
 pub record HasLast (ends : List (ℕ × ℕ)) (done : List ℕ) (s : ℕ) (after : ℕ → ℕ) : Type 0 where

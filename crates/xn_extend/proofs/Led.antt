@@ -3,7 +3,7 @@ use Rattle.std.proofs.Common.{◌≡◌, ◌≢◌, ℕ, suc, ◌+◌, ◌-◌, 
 use Rattle.std.specs.List.{swap}
 use Rattle.std.proofs.lemmas.Bool.{both_ways, cases_eq}
 use Rattle.xn_model.specs.Graph.{HasNoLoop}
-use Rattle.xn_model.specs.Insertion.{CutsFace, Extends, FlatInsertion, HangsAt, IsCorner, StandsAfter, is_old}
+use Rattle.xn_model.specs.Insertion.{CutsFace, Extends, FlatInsertion, HangsAt, IsOldCorner, StandsAfter, is_old}
 use Rattle.xn_model.specs.Lists.{at}
 use Rattle.xn_model.specs.Map.{face_step, tail_of}
 use Rattle.xn_model.specs.Permutation.{Reaches}
@@ -74,11 +74,11 @@ module _ (ends : List (ℕ × ℕ)) (list : List ℕ) (apart : AreSegmentsApart 
     none_below : (d : ℕ) → is_old ends done (tail_of ends d) ≡ false → NoneAt listed k (tail_of ends d)
     none_below d new j below same = both_ways _ new (ap (is_old ends done) (sym same) ∙ old_at ends list apart t within j below)
 
-    corner_first : (c : ℕ) → IsCorner ends done (2 * s) c → (y : ℕ) × (y < k) × (e y ≡ c) × (tail_of listed y ≡ tail_of listed k)
-    corner_first c corner = listed_corner ends list apart t within k c k_in (subst (λ d. IsCorner ends done d c) (sym (e_even ends list apart t)) corner)
+    corner_first : (c : ℕ) → IsOldCorner ends done (2 * s) c → (y : ℕ) × (y < k) × (e y ≡ c) × (tail_of listed y ≡ tail_of listed k)
+    corner_first c corner = listed_corner ends list apart t within k c k_in (subst (λ d. IsOldCorner ends done d c) (sym (e_even ends list apart t)) corner)
 
-    corner_second : (c : ℕ) → IsCorner ends done (2 * s + 1) c → (y : ℕ) × (y < k) × (e y ≡ c) × (tail_of listed y ≡ tail_of listed (suc k))
-    corner_second c corner = listed_corner ends list apart t within (suc k) c low (subst (λ d. IsCorner ends done d c) (sym (e_odd ends list apart t)) corner)
+    corner_second : (c : ℕ) → IsOldCorner ends done (2 * s + 1) c → (y : ℕ) × (y < k) × (e y ≡ c) × (tail_of listed y ≡ tail_of listed (suc k))
+    corner_second c corner = listed_corner ends list apart t within (suc k) c low (subst (λ d. IsOldCorner ends done d c) (sym (e_odd ends list apart t)) corner)
 
     by_first : HangsAt ends done (2 * s) (2 * s + 1) f after → Step ends list t next after
     by_first hangs =

@@ -5,7 +5,7 @@ use Rattle.std.proofs.lemmas.Bool.{both_ways, eq-eqb, eqb-true, or_cases, or_lef
 use Rattle.xn_genus.proofs.Lone.{touched_dart}
 use Rattle.xn_model.proofs.Darts.{cases_dart, tail-even, tail-odd}
 use Rattle.xn_model.specs.Graph.{ends_at, touches}
-use Rattle.xn_model.specs.Insertion.{IsCorner, is_old}
+use Rattle.xn_model.specs.Insertion.{IsOldCorner, is_old}
 use Rattle.xn_model.specs.Lists.{has}
 use Rattle.xn_model.specs.Map.{tail_of}
 
@@ -49,7 +49,7 @@ old_from_dart ends done x is =
     ] in
     any_has_from (λ s. touches (ends_at ends s) w) done c.0 (ap (has done) (sym half) ∙ is) touch
 
-pub corner_in : (ends : List (ℕ × ℕ)) (done : List ℕ) → AreIn ends done → (d c : ℕ) → IsCorner ends done d c → c < 2 * length ends
+pub corner_in : (ends : List (ℕ × ℕ)) (done : List ℕ) → AreIn ends done → (d c : ℕ) → IsOldCorner ends done d c → c < 2 * length ends
 corner_in ends done are_in d c is = let half = are_in (c / 2) is.in_map in omega (arith, half)
 
 -- what is the same along each segment that is in is the same at all old nodes

@@ -3,14 +3,14 @@ use Rattle.std.proofs.Common.{◌≡◌, ℕ, ◌+◌, ◌*◌, ◌<◌, inl, in
 use Rattle.xn_extend.proofs.Old.{AreIn, corner_in}
 use Rattle.xn_genus.proofs.Counts.{Permutes-face}
 use Rattle.xn_model.proofs.Darts.{reverse_below}
-use Rattle.xn_model.specs.Insertion.{CutsFace, Extends, FlatInsertion, HangsAt, IsCorner, StandsAfter}
+use Rattle.xn_model.specs.Insertion.{CutsFace, Extends, FlatInsertion, HangsAt, IsOldCorner, StandsAfter}
 use Rattle.xn_model.specs.Map.{face_step, reverse_of}
 use Rattle.xn_model.specs.Permutation.{Permutes, iterate}
 use Rattle.xn_ring.proofs.Agreeing.{iterate-agrees}
 
 module _ (ends : List (ℕ × ℕ)) (done : List ℕ) (are_in : AreIn ends done) (f g : ℕ → ℕ) (permutes : Permutes (2 * length ends) f)
     (same : (d : ℕ) → d < 2 * length ends → g d ≡ f d) where
-  stands-same : (d c : ℕ) (after : ℕ → ℕ) → IsCorner ends done d c → StandsAfter (2 * length ends) d c f after → StandsAfter (2 * length ends) d c g after
+  stands-same : (d c : ℕ) (after : ℕ → ℕ) → IsOldCorner ends done d c → StandsAfter (2 * length ends) d c f after → StandsAfter (2 * length ends) d c g after
   stands-same d c after is stands = record {
     follows = stands.follows;
     leads_on = stands.leads_on ∙ sym (same c (corner_in ends done are_in d c is));

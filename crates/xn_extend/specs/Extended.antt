@@ -3,7 +3,7 @@ use Rattle.std.specs.Prelude.{◌≡◌, ℕ, ◌*◌, ◌<◌, List, length}
 use Rattle.xn_model.specs.Graph.{Graph}
 use Rattle.xn_model.specs.Insertion.{ReachesEnd}
 use Rattle.xn_model.specs.Lists.{at}
-use Rattle.xn_model.specs.Map.{IsFlatMap}
+use Rattle.xn_model.specs.Map.{IsFlat}
 use Rattle.xn_graph.specs.Limits.{graph_of}
 use Rattle.xn_genus.specs.Part.{dart_listed, ends_listed}
 use Rattle.xn_map.specs.Listed.{ListedMap}
@@ -17,7 +17,7 @@ listed_web web list = graph_of web.nodes (ends_listed web.ends list)
 -- a flat map of the listed segments whose rotation flat insertions reach in the order of the list
 pub record IsEndMap (web : Graph) (list : List ℕ) (map : ListedMap) : Type 0 where
   pub web_is : map.web ≡ listed_web web list
-  pub flat : IsFlatMap map.web (at map.next)
+  pub flat : IsFlat map.web (at map.next)
   pub last : ℕ → ℕ
   pub reached : ReachesEnd web.ends list last
   pub turns : (j : ℕ) → j < 2 * length list → dart_listed list (at map.next j) ≡ last (dart_listed list j)

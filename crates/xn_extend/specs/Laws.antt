@@ -1,9 +1,9 @@
 -- Laws on flat insertions in the order of a list.
 use Rattle.std.specs.Prelude.{ℕ, List, length}
 use Rattle.xn_model.specs.Graph.{EndsIn, Graph, HasNoLoop}
-use Rattle.xn_model.specs.Insertion.{GrowsFromFirst, IsExtension, ReachesEnd}
+use Rattle.xn_model.specs.Insertion.{GrowsFromFirst, IsStuck, ReachesEnd}
 use Rattle.xn_model.specs.Lists.{has}
-use Rattle.xn_model.specs.Map.{IsFlatMap}
+use Rattle.xn_model.specs.Map.{IsFlat}
 use Rattle.xn_genus.specs.Live.{IsFlatOn, IsMapOn, passing_over}
 
 -- insertions in the order of the list reach each flat map of the listed segments
@@ -21,9 +21,9 @@ ReachedMapsAreFlat =
 -- so they reach what a flat map is on the listed segments, with the darts of the others passed over
 abbrev pub FlatMapsRestrictToInsertions : Type 0
 FlatMapsRestrictToInsertions =
-    (web : Graph) (list : List ℕ) (next : ℕ → ℕ) → HasNoLoop web.ends → GrowsFromFirst web.ends list → IsFlatMap web next →
+    (web : Graph) (list : List ℕ) (next : ℕ → ℕ) → HasNoLoop web.ends → GrowsFromFirst web.ends list → IsFlat web next →
     ReachesEnd web.ends list (passing_over (has list) (length web.ends) next)
 
 -- where a list is stuck, no map of the web is flat
 abbrev pub StuckMeansNoFlatMap : Type 0
-StuckMeansNoFlatMap = (web : Graph) (list : List ℕ) → IsExtension web list → (next : ℕ → ℕ) → IsFlatMap web next → ⊥
+StuckMeansNoFlatMap = (web : Graph) (list : List ℕ) → IsStuck web list → (next : ℕ → ℕ) → IsFlat web next → ⊥

@@ -4,7 +4,7 @@ use Rattle.std.specs.Prelude.{ℤ, pos, negsuc, ◌+ℤ◌, ◌*ℤ◌, ◌≤�
 use Rattle.std.specs.Int.{is_negative}
 use Rattle.std.proofs.lemmas.Int.{ints, by_lt_z}
 use Rattle.std.proofs.lemmas.Bool.{le-ltb}
-use Rattle.xn_frac.specs.Ratio.{Ratio, plus, times, over, signed, Same, IsBelow, IsAtMost, IsFrac}
+use Rattle.xn_frac.specs.Ratio.{Ratio, plus, times, over, signed, Same, IsLess, IsNoMore, IsFrac}
 use Rattle.xn_frac.proofs.Gaps.{gaps, gap-same, by_gap, by_gap2, by_gap3}
 use Rattle.xn_frac.proofs.Ratios.{one_form, cancel, le_times}
 
@@ -60,10 +60,10 @@ quotients_undo_products p q some = at p.num q.num p.den q.den some
     at a (pos m) b d h = rw (le-ltb m 0 (omega arith)) (above a b d m)
     at a (negsuc m) b d h = below a b d (suc m)
 
-pub order_is_total : (p q : Ratio) → IsBelow p q ⊎ IsAtMost q p
+pub order_is_total : (p q : Ratio) → IsLess p q ⊎ IsNoMore q p
 order_is_total p q = by_lt_z (p.num *ℤ pos q.den) (q.num *ℤ pos p.den) inl inr
 
-pub sums_keep_order : (p q r : Ratio) → IsAtMost p q → IsAtMost (plus p r) (plus q r)
+pub sums_keep_order : (p q r : Ratio) → IsNoMore p q → IsNoMore (plus p r) (plus q r)
 sums_keep_order p q r h =
     subst (λ t. t ≤ℤ ((q.num *ℤ pos r.den +ℤ r.num *ℤ pos q.den) *ℤ pos (p.den * r.den))) (sym (split p.num r.num p.den q.den r.den))
     (subst (λ t. (p.num *ℤ pos q.den *ℤ pos (r.den * r.den) +ℤ r.num *ℤ pos (p.den * q.den * r.den)) ≤ℤ t) (sym (split_other q.num r.num p.den q.den r.den))

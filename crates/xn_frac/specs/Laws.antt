@@ -1,5 +1,5 @@
 use Rattle.std.specs.Prelude.{◌≡◌, ◌≢◌, ◌⊎◌, ◌<◌, pos}
-use Rattle.xn_frac.specs.Ratio.{Ratio, plus, times, over, Same, IsBelow, IsAtMost, IsFrac}
+use Rattle.xn_frac.specs.Ratio.{Ratio, plus, times, over, Same, IsLess, IsNoMore, IsFrac}
 
 -- two lowest forms of one number are equal
 abbrev pub OneLowestForm : Type 0
@@ -35,8 +35,8 @@ QuotientsUndoProducts = (p q : Ratio) → q.num ≢ pos 0 → Same (times (over 
 
 -- p is below q, or q is at most p
 abbrev pub OrderIsTotal : Type 0
-OrderIsTotal = (p q : Ratio) → IsBelow p q ⊎ IsAtMost q p
+OrderIsTotal = (p q : Ratio) → IsLess p q ⊎ IsNoMore q p
 
 -- p at most q keeps its order beside r
 abbrev pub SumsKeepOrder : Type 0
-SumsKeepOrder = (p q r : Ratio) → IsAtMost p q → IsAtMost (plus p r) (plus q r)
+SumsKeepOrder = (p q r : Ratio) → IsNoMore p q → IsNoMore (plus p r) (plus q r)

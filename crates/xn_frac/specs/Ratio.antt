@@ -47,12 +47,12 @@ abbrev pub Same : Ratio → Ratio → Type 0
 Same p q = p.num *ℤ pos q.den ≡ q.num *ℤ pos p.den
 
 -- the first is the smaller number
-abbrev pub IsBelow : Ratio → Ratio → Type 0
-IsBelow p q = (p.num *ℤ pos q.den) <ℤ (q.num *ℤ pos p.den)
+abbrev pub IsLess : Ratio → Ratio → Type 0
+IsLess p q = (p.num *ℤ pos q.den) <ℤ (q.num *ℤ pos p.den)
 
 -- the first is not the greater number
-abbrev pub IsAtMost : Ratio → Ratio → Type 0
-IsAtMost p q = (p.num *ℤ pos q.den) ≤ℤ (q.num *ℤ pos p.den)
+abbrev pub IsNoMore : Ratio → Ratio → Type 0
+IsNoMore p q = (p.num *ℤ pos q.den) ≤ℤ (q.num *ℤ pos p.den)
 
 -- z lies between -2^127 and 2^127, both left out
 abbrev pub IsInRange : ℤ → Type 0

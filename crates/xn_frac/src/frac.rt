@@ -1,7 +1,7 @@
 // Fractions in lowest terms.
 ghost use Rattle.std.specs.Prelude.{◌≡◌, ◌≢◌, ◌^◌, OnOk, OnSome, IfNone, IfSome, ◌<◌, ◌↔◌, ℤ, pos, neg_ℤ, ◌<ℤ◌, IsTrue, IfOk, IfErr, MatchOption, unsigned_abs};
 ghost use Rattle.std.specs.Int.{IsGcd};
-ghost use Rattle.xn_frac.specs.Ratio.{whole, ratio_of, plus, minus_of, minus, times, over, IsBelow, IsFrac, IsFracOf, SumFits, CanAdd, CanSub, CanMul, CanDiv, IsRefused, inverse_of, sum_num, sum_den};
+ghost use Rattle.xn_frac.specs.Ratio.{whole, ratio_of, plus, minus_of, minus, times, over, IsLess, IsFrac, IsFracOf, SumFits, CanAdd, CanSub, CanMul, CanDiv, IsRefused, inverse_of, sum_num, sum_den};
 ghost use Rattle.xn_frac.specs.Small.{IsShort};
 
 use crate::{short, whole};
@@ -124,7 +124,7 @@ impl Frac {
 
     /// Whether this number is the smaller one.
     pub fn less(self, other: Frac) -> bool
-        ensures { IsTrue result ↔ IsBelow self other }
+        ensures { IsTrue result ↔ IsLess self other }
     {
         if self.num < 0 {
             other.num >= 0

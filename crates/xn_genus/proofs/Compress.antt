@@ -4,7 +4,7 @@ use Rattle.std.proofs.lemmas.Bool.{and_from, and_parts, cases_eq, eq-eqb, eqb-tr
 use Rattle.std.proofs.lemmas.List.Folds.{list_any_at}
 use Rattle.xn_model.specs.Graph.{EndsIn, ends_at, touches}
 use Rattle.xn_model.specs.Lists.{at}
-use Rattle.xn_model.specs.Map.{IsFlat, IsMap, component_count, component_labels, face_count, face_step, is_lone, reverse_of, tail_of}
+use Rattle.xn_model.specs.Map.{MeetsEuler, IsMap, component_count, component_labels, face_count, face_step, is_lone, reverse_of, tail_of}
 use Rattle.xn_model.specs.Permutation.{Permutes, Reaches, count_below, cycle_count, is_least, iterate}
 use Rattle.xn_genus.specs.Live.{IsFlatOn, IsMapOn, faces_on, kept}
 use Rattle.xn_genus.specs.Part.{IsPart}
@@ -331,5 +331,5 @@ module _ (nodes : ℕ) (ends part : List (ℕ × ℕ)) (e : ℕ → ℕ) (is : I
   pub faces_of_part : faces_on nodes ends keep on + length part ≡ face_count nodes part after + length ends
   faces_of_part = omega (arith, cycles_of_part, lone_of_part)
 
-  pub flat_part : IsFlatOn nodes ends keep on → IsFlat nodes part after
+  pub flat_part : IsFlatOn nodes ends keep on → MeetsEuler nodes part after
   flat_part flat = omega (arith, flat, faces_of_part, components_of_part)

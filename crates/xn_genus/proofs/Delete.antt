@@ -3,7 +3,7 @@ use Rattle.std.proofs.Common.{◌≡◌, ◌≢◌, ℕ, ◌+◌, ◌*◌, ◌/�
 use Rattle.std.proofs.lemmas.Bool.{cases_eq, cond-true, cond-false, eq-eqb, ne_eqb, eqb-false, not-true, not_from_false}
 use Rattle.xn_model.specs.Graph.{ends_at}
 use Rattle.xn_model.specs.Lists.{at}
-use Rattle.xn_model.specs.Map.{IsFlat, IsMap, Joined, component_count, component_labels, face_count, face_step, is_lone, reverse_of, tail_of}
+use Rattle.xn_model.specs.Map.{MeetsEuler, IsMap, Joined, component_count, component_labels, face_count, face_step, is_lone, reverse_of, tail_of}
 use Rattle.xn_model.specs.Permutation.{Reaches, count_below, cycle_count}
 use Rattle.xn_genus.specs.Deletion.{IsDeletion, dart_before}
 use Rattle.xn_genus.specs.Live.{IsMapOn, faces_on, kept, without_segment}
@@ -156,7 +156,7 @@ module _ (nodes s : ℕ) (ends left : List (ℕ × ℕ)) (next after : ℕ → �
       (λ same. apart (joined_from_label nodes left map_left.ends_in u v u_below v_below (label_left u u_below ∙ same ∙ sym (label_left v v_below)))) in
       omega (arith, more, components_left, components_all)
 
-  pub flat_left : IsFlat nodes ends next → IsFlat nodes left after
+  pub flat_left : MeetsEuler nodes ends next → MeetsEuler nodes left after
   flat_left flat =
       let live : nodes + faces_on nodes ends (λ i. true) next ≡ 2 * component_count nodes (kept (λ i. true) ends) + length ends = omega (arith, flat, faces_all, components_all) in
       flat_part nodes ends left e IsPart-left keep keeps found on after on_is map.ends_in goes.below goes.turns

@@ -1,7 +1,7 @@
 -- A part of a map under numbers of its own is a map, and flat where the map is.
 use Rattle.std.proofs.Common.{◌≡◌, ℕ, zero, suc, ◌+◌, ◌*◌, ◌/◌, ◌<◌, ◌⊎◌, inl, inr, Bool, true, cond, eqb, List, length, refl, sym, ◌∙◌, ap, arith}
 use Rattle.std.proofs.lemmas.Bool.{both_ways, cases_eq, cases_order, cond-true, cond-false, eq-eqb, eqb-true, ne_eqb}
-use Rattle.xn_model.specs.Map.{IsFlat, IsMap, component_count, face_count, is_lone, reverse_of}
+use Rattle.xn_model.specs.Map.{MeetsEuler, IsMap, component_count, face_count, is_lone, reverse_of}
 use Rattle.xn_model.specs.Permutation.{Permutes, count_below, iterate}
 use Rattle.xn_ring.specs.Removals.{IsNextKept}
 use Rattle.xn_genus.specs.Live.{kept, passing_over}
@@ -105,7 +105,7 @@ module _ (nodes : ℕ) (ends part : List (ℕ × ℕ)) (e next : ℕ → ℕ) (m
     pub map_of_part : IsMap nodes part after
     map_of_part = IsMap-part nodes ends part e is keep keeps found on after (restricted_map nodes ends next map keep) map.ends_in passes.below step
 
-    pub flat_of_part : IsFlat nodes ends next → IsFlat nodes part after
+    pub flat_of_part : MeetsEuler nodes ends next → MeetsEuler nodes part after
     flat_of_part flat =
         flat_part nodes ends part e is keep keeps found on after (restricted_map nodes ends next map keep) map.ends_in passes.below step
         (restricted_flat nodes ends next map keep flat)

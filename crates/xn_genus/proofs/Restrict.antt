@@ -1,7 +1,7 @@
 -- A map on any of its segments, where the rotation passes over the others: it stays flat.
 use Rattle.std.proofs.Common.{◌≡◌, ◌≢◌, ℕ, zero, suc, ◌+◌, ◌-◌, ◌*◌, ◌/◌, ◌<◌, ◌≤◌, inl, inr, Bool, true, false, not, ◌&&◌, eqb, List, length, refl, sym, ◌∙◌, ap, subst, arith}
 use Rattle.std.proofs.lemmas.Bool.{cases_eq, cases_lt, cases_Bool, cond-true, cond-false, and_parts, and_from, and_right, eq-eqb, ne_eqb, eqb-false, not-true, not_from_true, not_from_false}
-use Rattle.xn_model.specs.Map.{IsFlat, IsMap, component_count, face_step, is_lone}
+use Rattle.xn_model.specs.Map.{MeetsEuler, IsMap, component_count, face_step, is_lone}
 use Rattle.xn_model.specs.Permutation.{Permutes, count_below, cycle_count, iterate, without}
 use Rattle.xn_ring.specs.Removals.{IsNextKept}
 use Rattle.xn_genus.specs.Live.{IsFlatOn, IsMapOn, passing_over, without_segment}
@@ -126,7 +126,7 @@ pub record IsSoFar (nodes : ℕ) (ends : List (ℕ × ℕ)) (next : ℕ → ℕ)
   pub low : (i : ℕ) → i < k → now i ≡ keep i
   pub high : (i : ℕ) → k ≤ i → now i ≡ true
   pub map : IsMapOn ends now (passing_over keep k next)
-  pub flat : IsFlat nodes ends next → IsFlatOn nodes ends now (passing_over keep k next)
+  pub flat : MeetsEuler nodes ends next → IsFlatOn nodes ends now (passing_over keep k next)
   pub leads : LeadsOn (2 * length ends) (lives now) next (passing_over keep k next)
 
 module _ (nodes : ℕ) (ends : List (ℕ × ℕ)) (next : ℕ → ℕ) (map : IsMap nodes ends next) (keep : ℕ → Bool) where
@@ -194,7 +194,7 @@ module _ (nodes : ℕ) (ends : List (ℕ × ℕ)) (next : ℕ → ℕ) (map : Is
         round = λ d e d_in e_in d_live e_live tails. m.round d e d_in e_in (done.low (d / 2) (omega arith) ∙ d_live) (done.low (e / 2) (omega arith) ∙ e_live) tails;
       }
 
-  pub restricted_flat : IsFlat nodes ends next → IsFlatOn nodes ends keep passing
+  pub restricted_flat : MeetsEuler nodes ends next → IsFlatOn nodes ends keep passing
   restricted_flat flat =
       let P : List (ℕ × ℕ) → Type 0 = λ xs. nodes + (cycle_count (2 * length ends) (face_step passing) + count_below nodes (is_lone xs)) ≡ 2 * component_count nodes xs + length ends in
       subst P (kept-congr done.now keep ends done.low) (done.flat flat)

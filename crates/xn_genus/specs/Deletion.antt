@@ -1,7 +1,7 @@
 -- A segment goes out of a map.
 use Rattle.std.specs.Prelude.{◌≡◌, ℕ, suc, ◌+◌, ◌*◌, ◌/◌, ◌%◌, ◌<◌, ◌==◌, List, length, if◌then◌else◌}
 use Rattle.xn_model.specs.Graph.{ends_at}
-use Rattle.xn_model.specs.Map.{IsFlat, IsMap, Joined, component_count, face_count, face_step}
+use Rattle.xn_model.specs.Map.{MeetsEuler, IsMap, Joined, component_count, face_count, face_step}
 use Rattle.xn_model.specs.Permutation.{Reaches}
 use Rattle.xn_genus.specs.Live.{without_segment}
 
@@ -52,4 +52,4 @@ DeletionSplitsAComponent =
 abbrev pub DeletionKeepsFlat : Type 0
 DeletionKeepsFlat =
     (nodes s : ℕ) (ends left : List (ℕ × ℕ)) (next after : ℕ → ℕ) → IsMap nodes ends next → IsDeletion ends next s left after →
-    IsFlat nodes ends next → IsFlat nodes left after
+    MeetsEuler nodes ends next → MeetsEuler nodes left after

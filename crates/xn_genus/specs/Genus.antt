@@ -1,7 +1,7 @@
 -- Laws on the genus of maps.
 use Rattle.std.specs.Prelude.{◌≡◌, ℕ, Bool, true, ◌+◌, ◌*◌, ◌/◌, ◌<◌, ◌≤◌, List, length}
 use Rattle.xn_model.specs.Graph.{Graph}
-use Rattle.xn_model.specs.Map.{IsFlat, IsFlatMap, IsMap, component_count, face_count}
+use Rattle.xn_model.specs.Map.{MeetsEuler, IsFlat, IsMap, component_count, face_count}
 use Rattle.xn_ring.specs.Removals.{IsNextKept}
 use Rattle.xn_genus.specs.Live.{IsFlatOn, IsMapOn, passing_over}
 use Rattle.xn_genus.specs.Part.{AreDartsApart, AreSegmentsApart, IsPart, PassesOver, dart_along, dart_listed, ends_along, ends_listed}
@@ -17,7 +17,7 @@ GenusIsNotNegative =
 -- a flat map is flat on any of its segments, in its own numbers, with the darts of the others passed over
 abbrev pub FlatOnAnySegments : Type 0
 FlatOnAnySegments =
-    (web : Graph) (next : ℕ → ℕ) → IsFlatMap web next → (keep : ℕ → Bool) →
+    (web : Graph) (next : ℕ → ℕ) → IsFlat web next → (keep : ℕ → Bool) →
     let after : ℕ → ℕ = passing_over keep (length web.ends) next in
     IsMapOn web.ends keep after × IsFlatOn web.nodes web.ends keep after
     × ((d : ℕ) → d < 2 * length web.ends → keep (d / 2) ≡ true → IsNextKept next (λ x. keep (x / 2)) d (after d))
@@ -38,7 +38,7 @@ PartsAreMaps =
 abbrev pub PartsStayFlat : Type 0
 PartsStayFlat =
     (nodes : ℕ) (ends part : List (ℕ × ℕ)) (e next after : ℕ → ℕ) → IsMap nodes ends next → IsPart ends part e →
-    PassesOver (2 * length part) e next after → IsFlat nodes ends next → IsFlat nodes part after
+    PassesOver (2 * length part) e next after → MeetsEuler nodes ends next → MeetsEuler nodes part after
 
 -- listed darts of different segments make a part, and so do listed segments
 abbrev pub ListedDartsAreAPart : Type 0

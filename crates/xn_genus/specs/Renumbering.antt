@@ -1,6 +1,6 @@
 -- Segments and nodes under other numbers, segments turned, and nodes without darts.
 use Rattle.std.specs.Prelude.{◌≡◌, ℕ, suc, ◌+◌, ◌*◌, ◌<◌, ◌≤◌, ◌==◌, true, List, length, if◌then◌else◌}
-use Rattle.xn_model.specs.Map.{IsFlat, IsMap, component_count, face_count, is_lone, tail_of}
+use Rattle.xn_model.specs.Map.{MeetsEuler, IsMap, component_count, face_count, is_lone, tail_of}
 use Rattle.xn_model.specs.Permutation.{Permutes}
 use Rattle.xn_genus.specs.Part.{IsPart}
 
@@ -25,7 +25,7 @@ RenumberingKeepsCounts =
 abbrev pub RenumberingKeepsFlat : Type 0
 RenumberingKeepsFlat =
     (nodes : ℕ) (ends renumbered : List (ℕ × ℕ)) (e next after : ℕ → ℕ) → IsMap nodes ends next → IsRenumbering ends renumbered e next after →
-    IsFlat nodes ends next → IsFlat nodes renumbered after
+    MeetsEuler nodes ends next → MeetsEuler nodes renumbered after
 
 -- ---- nodes
 
@@ -48,7 +48,7 @@ NodeRenumberingKeepsCounts =
 abbrev pub NodeRenumberingKeepsFlat : Type 0
 NodeRenumberingKeepsFlat =
     (nodes : ℕ) (ends renumbered : List (ℕ × ℕ)) (k next : ℕ → ℕ) → IsMap nodes ends next → IsNodeRenumbering nodes ends renumbered k →
-    IsFlat nodes ends next → IsFlat nodes renumbered next
+    MeetsEuler nodes ends next → MeetsEuler nodes renumbered next
 
 -- a node without darts is one face and one component more
 abbrev pub NodeComes : Type 0
@@ -58,7 +58,7 @@ NodeComes =
     × (component_count (suc nodes) ends ≡ component_count nodes ends + 1)
 
 abbrev pub NodeComesFlat : Type 0
-NodeComesFlat = (nodes : ℕ) (ends : List (ℕ × ℕ)) (next : ℕ → ℕ) → IsMap nodes ends next → IsFlat nodes ends next → IsFlat (suc nodes) ends next
+NodeComesFlat = (nodes : ℕ) (ends : List (ℕ × ℕ)) (next : ℕ → ℕ) → IsMap nodes ends next → MeetsEuler nodes ends next → MeetsEuler (suc nodes) ends next
 
 -- v has no dart and goes; the last node, of the number rest, takes its number
 pub record IsNodeRemoval (rest v : ℕ) (ends left : List (ℕ × ℕ)) : Type 0 where
@@ -76,4 +76,4 @@ NodeGoes =
 abbrev pub NodeGoesFlat : Type 0
 NodeGoesFlat =
     (rest v : ℕ) (ends left : List (ℕ × ℕ)) (next : ℕ → ℕ) → IsMap (suc rest) ends next → IsNodeRemoval rest v ends left →
-    IsFlat (suc rest) ends next → IsFlat rest left next
+    MeetsEuler (suc rest) ends next → MeetsEuler rest left next

@@ -14,7 +14,7 @@ pub record FirstFails (P : ℕ × ℕ → Type 0) (ends : List (ℕ × ℕ)) (e 
   pub fails : ¬ (P (ends_at ends e))
 
 -- the numbers of nodes and edges are within the limits, and e is the first edge that doesn't join two different nodes
-pub record IsFirstFlaw (nodes : ℕ) (ends : List (ℕ × ℕ)) (e : ℕ) : Type 0 where
+pub record IsFirstEdgeFlaw (nodes : ℕ) (ends : List (ℕ × ℕ)) (e : ℕ) : Type 0 where
   pub few_nodes : nodes ≤ 1000
   pub few_edges : length ends ≤ 1000
   pub first : FirstFails (IsEdge nodes) ends e
@@ -23,8 +23,8 @@ pub record IsFirstFlaw (nodes : ℕ) (ends : List (ℕ × ℕ)) (e : ℕ) : Type
 abbrev pub IsRefused : ℕ → List (ℕ × ℕ) → GraphErr → Type 0
 IsRefused nodes ends TooManyNodes = 1000 < nodes
 IsRefused nodes ends TooManyEdges = (nodes ≤ 1000) × (1000 < length ends)
-IsRefused nodes ends (End e) = IsFirstFlaw nodes ends e × ¬ (HasNodes nodes (ends_at ends e))
-IsRefused nodes ends (Loop e) = IsFirstFlaw nodes ends e × HasNodes nodes (ends_at ends e) × ((ends_at ends e).0 ≡ (ends_at ends e).1)
+IsRefused nodes ends (End e) = IsFirstEdgeFlaw nodes ends e × ¬ (HasNodes nodes (ends_at ends e))
+IsRefused nodes ends (Loop e) = IsFirstEdgeFlaw nodes ends e × HasNodes nodes (ends_at ends e) × ((ends_at ends e).0 ≡ (ends_at ends e).1)
 
 -- a web of these nodes and ends is refused for this cause
 abbrev pub IsRefusedWeb : ℕ → List (ℕ × ℕ) → WebErr → Type 0

@@ -19,8 +19,8 @@ abbrev pub bytes_of : Files → List ℕ → List ℕ
 bytes_of files name = unwrap_or (entry_of files name) []
 
 -- where the files are told, a begun name has all its bytes left
-abbrev pub Begins : {E : Type 0} → Option Files → List ℕ → Option (List ℕ) → Result Unit E → Type 0
-Begins told name left result = OnOk result (IfSome told (λ files. left ≡ Some (bytes_of files name)))
+abbrev pub BeginsFile : {E : Type 0} → Option Files → List ℕ → Option (List ℕ) → Result Unit E → Type 0
+BeginsFile told name left result = OnOk result (IfSome told (λ files. left ≡ Some (bytes_of files name)))
 
 -- a read put the first bytes that were left into the front of the buffer, and none only at the end
 abbrev pub Gives : {E : Type 0} → Option (List ℕ) → Option (List ℕ) → Result ℕ E → List ℕ → Type 0

@@ -3,7 +3,7 @@ ghost use Rattle.std.specs.Prelude.{◌≡◌, ◌+◌, ◌^◌, ◌≤◌, List
 ghost use Rattle.std.specs.Io.{ReadsAtMost};
 ghost use Rattle.std.specs.String.{string_bytes};
 ghost use Rattle.xn_io.specs.Causes.{HasCause};
-ghost use Rattle.xn_io.specs.Input.{Files, Begins, Gives};
+ghost use Rattle.xn_io.specs.Input.{Files, BeginsFile, Gives};
 
 /// A call of an input or a sink failed.
 #[derive(Clone, Copy, Debug, PartialEq, Eq)]
@@ -29,13 +29,13 @@ pub trait Input {
     /// Whether a call failed since that name was begun, its `begin` included.
     ghost failed: { Self → Bool };
 
-    /// Begins a name, to read it from its start. The name is kept, also where the call fails.
+    /// BeginsFile a name, to read it from its start. The name is kept, also where the call fails.
     fn begin(&mut self, file: String) -> Result<(), Failed>
         ensures name { name self.new ≡ Some (string_bytes file) }
         ensures got { got self.new ≡ 0 }
         ensures failed { failed self.new ≡ is_err result }
         ensures told { told self.new ≡ told self.old }
-        ensures left { Begins (told self.old) (string_bytes file) (left self.new) result }
+        ensures left { BeginsFile (told self.old) (string_bytes file) (left self.new) result }
         ensures cause { HasCause (faults self.old) (faults self.new) result };
 
     /// Puts the next bytes of the begun name into the front of the buffer, and says how many: none

@@ -2,7 +2,7 @@
 use Rattle.std.specs.Prelude.{◌≡◌, ℕ, ◌+◌, ◌-◌, List, length, if◌then◌else◌, nat_lt}
 use Rattle.xn_model.specs.Evidence.{IsFive, IsThreeThree}
 use Rattle.xn_model.specs.Graph.{Graph, pairs_of}
-use Rattle.xn_model.specs.Insertion.{IsExtension}
+use Rattle.xn_model.specs.Insertion.{IsStuck}
 use Rattle.xn_model.specs.Lists.{has, neighbours, one_if, stands_before, total}
 use Rattle.xn_model.specs.Orders.{IsOrders, order_at}
 use Rattle.xn_model.specs.Web.{web_of}
@@ -47,7 +47,7 @@ value_of g row v = pairs_value g row v + turns_value row v
 abbrev pub EvidenceHolds : Graph → Evidence → Type 0
 EvidenceHolds web (Five branch paths) = IsFive web branch paths
 EvidenceHolds web (ThreeThree branch paths) = IsThreeThree web branch paths
-EvidenceHolds web (Extension list) = IsExtension web list
+EvidenceHolds web (Extension list) = IsStuck web list
 
 -- the row is one of the graph, and its evidence holds for the web of its orders
 pub record RowHolds (g : Graph) (row : Row) : Type 0 where

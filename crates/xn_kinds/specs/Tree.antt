@@ -11,17 +11,17 @@ use Rattle.xn_kinds.specs.declared.trees.Node.{Node}
 use Rattle.xn_kinds.specs.declared.trees.Node.TheVariants.{Pair, Place, Leaf}
 
 -- the nodes are one tree for each pending state, in order
-abbrev pub Finishes : {S N : Type 0} → (S → N → Type 0) → (S → N → List S) → List S → List N → Type 0
-Finishes keeps children [] [] = Unit {0}
-Finishes keeps children [] (node ∷ nodes) = ⊥
-Finishes keeps children (s ∷ pending) [] = ⊥
-Finishes keeps children (s ∷ pending) (node ∷ nodes) = keeps s node × Finishes keeps children (children s node ++ pending) nodes
+abbrev pub AreTrees : {S N : Type 0} → (S → N → Type 0) → (S → N → List S) → List S → List N → Type 0
+AreTrees keeps children [] [] = Unit {0}
+AreTrees keeps children [] (node ∷ nodes) = ⊥
+AreTrees keeps children (s ∷ pending) [] = ⊥
+AreTrees keeps children (s ∷ pending) (node ∷ nodes) = keeps s node × AreTrees keeps children (children s node ++ pending) nodes
 
 -- the nodes begin such trees, and more nodes are owed
-abbrev pub Opens : {S N : Type 0} → (S → N → Type 0) → (S → N → List S) → List S → List N → Type 0
-Opens keeps children [] nodes = ⊥
-Opens keeps children (s ∷ pending) [] = Unit {0}
-Opens keeps children (s ∷ pending) (node ∷ nodes) = keeps s node × Opens keeps children (children s node ++ pending) nodes
+abbrev pub BeginTrees : {S N : Type 0} → (S → N → Type 0) → (S → N → List S) → List S → List N → Type 0
+BeginTrees keeps children [] nodes = ⊥
+BeginTrees keeps children (s ∷ pending) [] = Unit {0}
+BeginTrees keeps children (s ∷ pending) (node ∷ nodes) = keeps s node × BeginTrees keeps children (children s node ++ pending) nodes
 
 -- the rule of one node of a proof of k, in its state
 abbrev pub Keeps : Graph → ℕ → List Row → State → Node → Type 0
@@ -37,11 +37,11 @@ children s (Leaf d parts) = []
 
 -- the nodes prove k from a state
 abbrev pub Proves : Graph → ℕ → List Row → State → List Node → Type 0
-Proves g k rows s nodes = Finishes (Keeps g k rows) children (s ∷ []) nodes
+Proves g k rows s nodes = AreTrees (Keeps g k rows) children (s ∷ []) nodes
 
 -- the nodes begin trees that prove k from the pending states
 abbrev pub Begins : Graph → ℕ → List Row → List State → List Node → Type 0
-Begins g k rows pending nodes = Opens (Keeps g k rows) children pending nodes
+Begins g k rows pending nodes = BeginTrees (Keeps g k rows) children pending nodes
 
 -- the nodes begin a proof of k
 abbrev pub BeginsProof : Graph → ℕ → List Row → List Node → Type 0

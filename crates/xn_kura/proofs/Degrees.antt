@@ -3,7 +3,7 @@ use Rattle.std.proofs.Common.{◌≡◌, ◌≢◌, ℕ, suc, ◌+◌, ◌*◌, 
 use Rattle.std.specs.Prelude.{slice_index}
 use Rattle.std.specs.List.{IsDistinct, concat}
 use Rattle.std.proofs.lemmas.Bool.{cases_eq, cases_Bool, both_ways, eqb-true, eq-eqb, false_from_ne_true, ne_eqb, or_cases, or_left, or_right}
-use Rattle.xn_model.specs.Evidence.{IsSubdivision, LeadAll, LeadsTo, all_inner, far_end, inner_nodes}
+use Rattle.xn_model.specs.Evidence.{IsPathSystem, LeadAll, LeadsTo, all_inner, far_end, inner_nodes}
 use Rattle.xn_model.specs.Graph.{Graph, ends_at}
 use Rattle.xn_model.specs.Lists.{has, one_if, total}
 use Rattle.xn_model.specs.Map.{reverse_of, tail_of}
@@ -165,7 +165,7 @@ module _ (ends : List (ℕ × ℕ)) (branch : List ℕ) where
 -- ---- the degrees
 
 module _ (web : Graph) (pairs : List (ℕ × ℕ)) (branch : List ℕ) (paths : List (List ℕ)) (are : ArePairs (length branch) pairs)
-    (is : IsSubdivision web pairs branch paths) (used : (s : ℕ) → s < length web.ends → has (concat paths) s ≡ true) where
+    (is : IsPathSystem web pairs branch paths) (used : (s : ℕ) → s < length web.ends → has (concat paths) s ≡ true) where
   abbrev inner : List ℕ
   inner = all_inner web.ends branch pairs paths
 

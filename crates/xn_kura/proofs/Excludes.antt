@@ -2,10 +2,10 @@
 use Rattle.std.proofs.Common.{◌≡◌, ℕ, ◌+◌, ◌*◌, ◌/◌, ◌<◌, ◌≤◌, Bool, true, false, not, ltb, List, ◌++◌, length, refl, sym, ◌∙◌, ap, subst, arith, length-append}
 use Rattle.std.specs.List.{concat}
 use Rattle.std.proofs.lemmas.Bool.{both_ways, not-true, false_from_ne_true}
-use Rattle.xn_model.specs.Evidence.{IsFive, IsSubdivision, IsThreeThree, all_inner, five_pairs, three_pairs}
+use Rattle.xn_model.specs.Evidence.{IsFive, IsPathSystem, IsThreeThree, all_inner, five_pairs, three_pairs}
 use Rattle.xn_model.specs.Graph.{Graph, ends_at}
 use Rattle.xn_model.specs.Lists.{has}
-use Rattle.xn_model.specs.Map.{IsFlatMap, face_step, is_lone, tail_of}
+use Rattle.xn_model.specs.Map.{IsFlat, face_step, is_lone, tail_of}
 use Rattle.xn_ring.proofs.Marks.{marks_are_many}
 use Rattle.xn_ring.specs.Parts.{cycle_count_with}
 use Rattle.xn_genus.proofs.Compress.{tail_in}
@@ -24,7 +24,7 @@ use Rattle.xn_kura.proofs.Tally.{count-le_cover, count-not, distinct-le}
 use Rattle.xn_kura.proofs.UsedPaths.{used_in}
 
 module _ (web : Graph) (branch : List ℕ) (pairs : List (ℕ × ℕ)) (paths : List (List ℕ)) (are : ArePairs (length branch) pairs)
-    (some_pair : 0 < length pairs) (is : IsSubdivision web pairs branch paths) (next : ℕ → ℕ) (flat : IsFlatMap web next) where
+    (some_pair : 0 < length pairs) (is : IsPathSystem web pairs branch paths) (next : ℕ → ℕ) (flat : IsFlat web next) where
   abbrev n : ℕ
   n = 2 * length web.ends
 
@@ -83,7 +83,7 @@ module _ (web : Graph) (branch : List ℕ) (pairs : List (ℕ × ℕ)) (paths : 
     marked_few web.ends branch pairs paths are is.lead is.once is.apart after map,
   )
 
-pub no_flat_five : (web : Graph) (branch : List ℕ) (paths : List (List ℕ)) → IsFive web branch paths → (next : ℕ → ℕ) → IsFlatMap web next → ⊥
+pub no_flat_five : (web : Graph) (branch : List ℕ) (paths : List (List ℕ)) → IsFive web branch paths → (next : ℕ → ℕ) → IsFlat web next → ⊥
 no_flat_five web branch paths is next flat =
     let P : ℕ → Type 0 = λ count. ArePairs count five_pairs in
     let are : ArePairs (length branch) five_pairs = subst P (sym is.0) (pairs_by_test 5 five_pairs refl) in
@@ -105,7 +105,7 @@ crosses q q_in = same_bits _ _ (all_below_at 9 (λ x. same_bit (ltb (ends_at thr
     same_bits false true h = absurd (both_ways false refl h)
     same_bits false false h = refl
 
-pub no_flat_three_three : (web : Graph) (branch : List ℕ) (paths : List (List ℕ)) → IsThreeThree web branch paths → (next : ℕ → ℕ) → IsFlatMap web next → ⊥
+pub no_flat_three_three : (web : Graph) (branch : List ℕ) (paths : List (List ℕ)) → IsThreeThree web branch paths → (next : ℕ → ℕ) → IsFlat web next → ⊥
 no_flat_three_three web branch paths is next flat =
     let P : ℕ → Type 0 = λ count. ArePairs count three_pairs in
     let are : ArePairs (length branch) three_pairs = subst P (sym is.0) (pairs_by_test 6 three_pairs refl) in
@@ -113,7 +113,7 @@ no_flat_three_three web branch paths is next flat =
     let few = four_a_face web branch three_pairs paths are (omega arith) is.1 next flat (λ i. ltb i 3) crosses in
     omega (arith, many, few, is.0)
 
-pub no_flat : (web : Graph) (evidence : Evidence) → HasAKind evidence → EvidenceHolds web evidence → (next : ℕ → ℕ) → IsFlatMap web next → ⊥
+pub no_flat : (web : Graph) (evidence : Evidence) → HasAKind evidence → EvidenceHolds web evidence → (next : ℕ → ℕ) → IsFlat web next → ⊥
 no_flat web (Five branch paths) kind holds next flat = no_flat_five web branch paths holds next flat
 no_flat web (ThreeThree branch paths) kind holds next flat = no_flat_three_three web branch paths holds next flat
 no_flat web (Extension list) kind holds next flat = kind

@@ -4,24 +4,24 @@ use Rattle.std.specs.Cmp.{nat_eq_equiv}
 use Rattle.std.proofs.lemmas.Bool.{cases_eq}
 use Rattle.std.proofs.lemmas.List.Elements.{All-from_recursion}
 use Rattle.std.proofs.lemmas.Map.Made.{IsDistinct-from_count}
-use Rattle.xn_model.specs.Drawing.{IsCrossingNumber, Least}
+use Rattle.xn_model.specs.Drawing.{IsCrossingNumber, IsAtLeast}
 use Rattle.xn_model.specs.Evidence.{IsFive, IsThreeThree}
 use Rattle.xn_model.specs.Examples.{k33, k5}
 use Rattle.xn_model.specs.Graph.{Graph}
-use Rattle.xn_model.specs.Map.{IsFlatMap}
+use Rattle.xn_model.specs.Map.{IsFlat}
 use Rattle.xn_model.specs.Orders.{crossing_count}
 use Rattle.xn_model.proofs.Examples.{k5_with_one_crossing}
 use Rattle.xn_kura.proofs.CrossingFree.{flat_where_none_cross}
 use Rattle.xn_kura.proofs.Excludes.{no_flat_five, no_flat_three_three}
 use Rattle.xn_kura.specs.Laws.{KuratowskiGraphs}
 
-least_one : (g : Graph) → ((next : ℕ → ℕ) → ¬ IsFlatMap g next) → Least g 1
+least_one : (g : Graph) → ((next : ℕ → ℕ) → ¬ IsFlat g next) → IsAtLeast g 1
 least_one g never ord next drawing = elim (cases_eq (crossing_count g ord) 0) [
   | inl none ↦ absurd (never next (flat_where_none_cross g ord next drawing none))
   | inr some ↦ omega (arith, some)
 ]
 
-pub least_by_evidence : (g : Graph) (branch : List ℕ) (paths : List (List ℕ)) → IsFive g branch paths ⊎ IsThreeThree g branch paths → Least g 1
+pub least_by_evidence : (g : Graph) (branch : List ℕ) (paths : List (List ℕ)) → IsFive g branch paths ⊎ IsThreeThree g branch paths → IsAtLeast g 1
 least_by_evidence g branch paths (inl is) = least_one g (no_flat_five g branch paths is)
 least_by_evidence g branch paths (inr is) = least_one g (no_flat_three_three g branch paths is)
 

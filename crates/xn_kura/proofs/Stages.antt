@@ -3,7 +3,7 @@ use Rattle.std.proofs.Common.{◌≡◌, ℕ, suc, ◌<◌, ◌⊎◌, inl, inr,
 use Rattle.std.specs.Prelude.{Result, Ok, Err, IfErr, IsErrOf, IsOk, OnOk, ◌↔◌}
 use Rattle.std.specs.List.{IsDistinct, concat}
 use Rattle.std.proofs.lemmas.Bool.{cases_order, both_ways, or_left, eq-eqb}
-use Rattle.xn_model.specs.Evidence.{IsSubdivision, LeadAll, LeadsTo, all_inner, far_end, five_pairs, three_pairs}
+use Rattle.xn_model.specs.Evidence.{IsPathSystem, LeadAll, LeadsTo, all_inner, far_end, five_pairs, three_pairs}
 use Rattle.xn_model.specs.Graph.{Graph, ends_at}
 use Rattle.xn_model.specs.Lists.{has}
 use Rattle.xn_kinds.specs.declared.flaws.EvidenceFlaw.{EvidenceFlaw}
@@ -15,7 +15,7 @@ use Rattle.xn_kinds.specs.declared.rows.Evidence.TheVariants.{Five, ThreeThree}
 use Rattle.xn_kura.proofs.Branches.{branches_from}
 use Rattle.xn_kura.proofs.Distinct.{distinct-apart, distinct-left}
 use Rattle.xn_kura.proofs.UsedPaths.{lead_at}
-use Rattle.xn_kura.specs.Flaws.{AreBranches, HasAKind, IsFirstFlaw, IsFirstFlawOf, IsFirstRepeat, IsFirstWrong, LeadBefore, begins_at, goes_to, path_at}
+use Rattle.xn_kura.specs.Flaws.{AreBranches, HasAKind, IsFirstEvidenceFlaw, IsFirstFlawOf, IsFirstRepeat, IsFirstWrong, LeadBefore, begins_at, goes_to, path_at}
 
 -- a walk ends at one node
 same_end : (ends : List (ℕ × ℕ)) (u v w : ℕ) (path : List ℕ) → LeadsTo ends u path v → LeadsTo ends u path w → v ≡ w
@@ -78,7 +78,7 @@ lead_all ends branch (p ∷ pairs) (path ∷ paths) same before = (before 0 (ome
 
 module _ (web : Graph) (pairs : List (ℕ × ℕ)) (branch : List ℕ) (paths : List (List ℕ)) where
   abbrev Flaw : EvidenceFlaw → Type 0
-  Flaw = IsFirstFlaw web pairs branch paths
+  Flaw = IsFirstEvidenceFlaw web pairs branch paths
 
   abbrev Leads : ℕ → Type 0
   Leads q = LeadsTo web.ends (begins_at pairs branch q) (path_at paths q) (goes_to pairs branch q)
@@ -152,7 +152,7 @@ module _ (web : Graph) (pairs : List (ℕ × ℕ)) (branch : List ℕ) (paths : 
   one_flaw (ListFlaw i) g a b = absurd a
   one_flaw f (ListFlaw j) a b = absurd b
 
-  pub no_flaw : (f : EvidenceFlaw) → Flaw f → IsSubdivision web pairs branch paths → ⊥
+  pub no_flaw : (f : EvidenceFlaw) → Flaw f → IsPathSystem web pairs branch paths → ⊥
   no_flaw (Branch i) flaw is = not_right i flaw (branches_from web.nodes branch is.below (distinct-left branch _ is.apart))
   no_flaw (Broken q) flaw is = not_all q (broken q flaw) is.lead
   no_flaw (Ends q) flaw is = not_all q (elsewhere q flaw) is.lead
@@ -161,8 +161,8 @@ module _ (web : Graph) (pairs : List (ℕ × ℕ)) (branch : List ℕ) (paths : 
   no_flaw (ListFlaw i) flaw is = flaw
 
   -- an answer that is a flaw only where that is the first, and none only where the evidence holds, is exact
-  pub exact : (r : Result (Unit {0}) EvidenceFlaw) → OnOk r (IsSubdivision web pairs branch paths) → IfErr r Flaw →
-      (IsOk r ↔ IsSubdivision web pairs branch paths) × ((f : EvidenceFlaw) → IsErrOf r f ↔ Flaw f)
+  pub exact : (r : Result (Unit {0}) EvidenceFlaw) → OnOk r (IsPathSystem web pairs branch paths) → IfErr r Flaw →
+      (IsOk r ↔ IsPathSystem web pairs branch paths) × ((f : EvidenceFlaw) → IsErrOf r f ↔ Flaw f)
   exact (Ok u) ok err = ((λ t. ok, λ is. refl), λ f. (λ e. absurd (cc), λ flaw. absurd (no_flaw f flaw ok)))
   exact (Err g) ok err = (
     (λ t. absurd (both_ways false refl t), λ is. absurd (no_flaw g err is)),
@@ -177,14 +177,14 @@ abbrev pub IsExact : Graph → Result (Unit {0}) EvidenceFlaw → Evidence → T
 IsExact web r evidence = (IsOk r ↔ EvidenceHolds web evidence) × ((f : EvidenceFlaw) → IsErrOf r f ↔ IsFirstFlawOf web evidence f)
 
 pub exact_five : (web : Graph) (evidence : Evidence) (branch : List ℕ) (paths : List (List ℕ)) (r : Result (Unit {0}) EvidenceFlaw) → evidence ≡ Five branch paths → HasAKind evidence →
-    OnOk r (IsSubdivision web five_pairs branch paths) → IfErr r (IsFirstFlaw web five_pairs branch paths) → IsExact web r evidence
+    OnOk r (IsPathSystem web five_pairs branch paths) → IfErr r (IsFirstEvidenceFlaw web five_pairs branch paths) → IsExact web r evidence
 exact_five web evidence branch paths r is kind ok err =
     let five : HasAKind (Five branch paths) = subst HasAKind is kind in
     let all = exact web five_pairs branch paths r ok err in
     subst (IsExact web r) (sym is) ((λ t. (five.0, all.0.0 t), λ holds. all.0.1 holds.1), all.1)
 
 pub exact_three_three : (web : Graph) (evidence : Evidence) (branch : List ℕ) (paths : List (List ℕ)) (r : Result (Unit {0}) EvidenceFlaw) → evidence ≡ ThreeThree branch paths → HasAKind evidence →
-    OnOk r (IsSubdivision web three_pairs branch paths) → IfErr r (IsFirstFlaw web three_pairs branch paths) → IsExact web r evidence
+    OnOk r (IsPathSystem web three_pairs branch paths) → IfErr r (IsFirstEvidenceFlaw web three_pairs branch paths) → IsExact web r evidence
 exact_three_three web evidence branch paths r is kind ok err =
     let six : HasAKind (ThreeThree branch paths) = subst HasAKind is kind in
     let all = exact web three_pairs branch paths r ok err in

@@ -4,7 +4,7 @@ use Rattle.std.specs.Prelude.{slice_index}
 use Rattle.std.specs.List.{AllByRecursion, IsDistinct, concat}
 use Rattle.std.proofs.lemmas.Bool.{cases_eq, cases_Bool, both_ways, cond-false, cond-true, eqb-true, eq-eqb, false_from_ne_true, ne_eqb, or_cases, or_left, or_right}
 use Rattle.std.proofs.lemmas.List.{length-reverse, reverse-append}
-use Rattle.xn_model.specs.Evidence.{IsSubdivision, LeadAll, LeadsTo, all_inner, far_end, inner_nodes}
+use Rattle.xn_model.specs.Evidence.{IsPathSystem, LeadAll, LeadsTo, all_inner, far_end, inner_nodes}
 use Rattle.xn_model.specs.Graph.{Graph, ends_at, touches}
 use Rattle.xn_model.specs.Lists.{has}
 use Rattle.xn_kura.proofs.Branches.{place_of}
@@ -178,7 +178,7 @@ length-lead ends branch (p ∷ pairs) [] lead = absurd lead
 length-lead ends branch (p ∷ pairs) (path ∷ paths) lead = ap suc (length-lead ends branch pairs paths lead.1)
 
 module _ (web : Graph) (pairs chosen : List (ℕ × ℕ)) (branch nodes : List ℕ) (paths turns : List (List ℕ)) (from : ℕ → ℕ)
-    (is : IsSubdivision web pairs branch paths) (some : AreSomePaths pairs branch paths chosen nodes turns from) where
+    (is : IsPathSystem web pairs branch paths) (some : AreSomePaths pairs branch paths chosen nodes turns from) where
   abbrev ends : List (ℕ × ℕ)
   ends = web.ends
 
@@ -246,7 +246,7 @@ module _ (web : Graph) (pairs chosen : List (ℕ × ℕ)) (branch nodes : List �
       one_path (inners ends branch pairs paths) (subst P (sym (inners-concat ends branch pairs paths)) (distinct-right branch _ is.apart)) q r w
       (ap (λ xs. has xs w) (inners_at ends branch pairs paths as_long q q_in) ∙ a) (ap (λ xs. has xs w) (inners_at ends branch pairs paths as_long r r_in) ∙ b)
 
-  pub subdivision_of_some : IsSubdivision web chosen nodes turns
+  pub subdivision_of_some : IsPathSystem web chosen nodes turns
   subdivision_of_some =
       let P : List ℕ → Type 0 = λ xs. IsDistinct eqb xs in
       let long = length-inners ends nodes chosen turns some.as_many in

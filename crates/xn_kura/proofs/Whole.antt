@@ -4,7 +4,7 @@ use Rattle.std.specs.Prelude.{None, Some, slice_index}
 use Rattle.std.specs.List.{IsDistinct}
 use Rattle.std.proofs.lemmas.Bool.{cases_Bool, both_ways, cond-false, cond-true, eqb-true, eq-eqb, false_from_ne_true, ne_eqb, or_left, or_right}
 use Rattle.std.proofs.lemmas.List.{length-reverse}
-use Rattle.xn_model.specs.Evidence.{IsSubdivision, LeadsTo, all_inner, far_end, inner_nodes}
+use Rattle.xn_model.specs.Evidence.{IsPathSystem, LeadsTo, all_inner, far_end, inner_nodes}
 use Rattle.xn_model.specs.Graph.{Graph, ends_at}
 use Rattle.xn_model.specs.Lists.{has}
 use Rattle.xn_model.specs.Map.{reverse_of, tail_of}
@@ -72,7 +72,7 @@ module _ (ends : List (ℕ × ℕ)) where
 -- the paths are a subdivision that uses each segment, and each branch node is in k of the pairs
 pub record Covers (web : Graph) (pairs : List (ℕ × ℕ)) (branch : List ℕ) (paths : List (List ℕ)) (k : ℕ) : Type 0 where
   pub are : ArePairs (length branch) pairs
-  pub is : IsSubdivision web pairs branch paths
+  pub is : IsPathSystem web pairs branch paths
   pub used : UsesAll web paths
   pub degrees : (i : ℕ) → i < length branch → degree_in pairs i ≡ k
   pub no_two : k ≢ 2
@@ -302,7 +302,7 @@ module _ (web : Graph) (pairs : List (ℕ × ℕ)) (branch : List ℕ) (paths : 
       among = among;
     }
 
-    pub found_holds : IsSubdivision web chosen nodes turns
+    pub found_holds : IsPathSystem web chosen nodes turns
     found_holds = subdivision_of_some web pairs chosen branch nodes paths turns from covers.is some_paths
 
     turn_has : (q r s : ℕ) → IsPathOrTurned (u_at r) (path_at paths r) (v_at r) (x_at q) (path_at turns q) (y_at q) → has (path_at paths r) s ≡ true → has (path_at turns q) s ≡ true

@@ -71,23 +71,23 @@ IsFirstRepeat xs x =
 -- ---- the first flaw
 
 -- the first flaw, case by case: what is tested before it has none
-abbrev pub IsFirstFlaw : Graph → List (ℕ × ℕ) → List ℕ → List (List ℕ) → EvidenceFlaw → Type 0
-IsFirstFlaw web pairs branch paths (Branch i) = IsFirstWrong web.nodes branch i
-IsFirstFlaw web pairs branch paths (Broken q) =
+abbrev pub IsFirstEvidenceFlaw : Graph → List (ℕ × ℕ) → List ℕ → List (List ℕ) → EvidenceFlaw → Type 0
+IsFirstEvidenceFlaw web pairs branch paths (Branch i) = IsFirstWrong web.nodes branch i
+IsFirstEvidenceFlaw web pairs branch paths (Broken q) =
     AreBranches web.nodes branch × (q < length pairs) × LeadBefore web.ends pairs branch paths q
     × IsBroken web.ends (begins_at pairs branch q) (path_at paths q)
-IsFirstFlaw web pairs branch paths (Ends q) =
+IsFirstEvidenceFlaw web pairs branch paths (Ends q) =
     AreBranches web.nodes branch × (q < length pairs) × LeadBefore web.ends pairs branch paths q
     × EndsElsewhere web.ends (begins_at pairs branch q) (path_at paths q) (goes_to pairs branch q)
-IsFirstFlaw web pairs branch paths (Twice s) =
+IsFirstEvidenceFlaw web pairs branch paths (Twice s) =
     AreBranches web.nodes branch × LeadAll web.ends branch pairs paths × IsFirstRepeat (concat paths) s
-IsFirstFlaw web pairs branch paths (Inner v) =
+IsFirstEvidenceFlaw web pairs branch paths (Inner v) =
     AreBranches web.nodes branch × LeadAll web.ends branch pairs paths × IsDistinct nat_eq (concat paths)
     × IsFirstRepeat (branch ++ all_inner web.ends branch pairs paths) v
-IsFirstFlaw web pairs branch paths (ListFlaw i) = ⊥
+IsFirstEvidenceFlaw web pairs branch paths (ListFlaw i) = ⊥
 
 -- the first flaw of an evidence of either kind
 abbrev pub IsFirstFlawOf : Graph → Evidence → EvidenceFlaw → Type 0
-IsFirstFlawOf web (Five branch paths) flaw = IsFirstFlaw web five_pairs branch paths flaw
-IsFirstFlawOf web (ThreeThree branch paths) flaw = IsFirstFlaw web three_pairs branch paths flaw
+IsFirstFlawOf web (Five branch paths) flaw = IsFirstEvidenceFlaw web five_pairs branch paths flaw
+IsFirstFlawOf web (ThreeThree branch paths) flaw = IsFirstEvidenceFlaw web three_pairs branch paths flaw
 IsFirstFlawOf web (Extension list) flaw = ⊥

@@ -1,12 +1,12 @@
 -- What evidence shows.
 use Rattle.std.specs.Prelude.{◌≡◌, ℕ, ◌<◌, ◌⊎◌, true, List, length, nat_eq, reverse}
 use Rattle.std.specs.List.{IsDistinct}
-use Rattle.xn_model.specs.Drawing.{IsCrossingNumber, IsDrawing, Least}
-use Rattle.xn_model.specs.Evidence.{IsSubdivision}
+use Rattle.xn_model.specs.Drawing.{IsCrossingNumber, IsDrawing, IsAtLeast}
+use Rattle.xn_model.specs.Evidence.{IsPathSystem}
 use Rattle.xn_model.specs.Examples.{k33, k5}
 use Rattle.xn_model.specs.Graph.{Graph}
 use Rattle.xn_model.specs.Lists.{has}
-use Rattle.xn_model.specs.Map.{IsFlatMap}
+use Rattle.xn_model.specs.Map.{IsFlat}
 use Rattle.xn_model.specs.Orders.{crossing_count}
 use Rattle.xn_kinds.specs.Row.{EvidenceHolds}
 use Rattle.xn_kinds.specs.declared.rows.Evidence.{Evidence}
@@ -17,36 +17,36 @@ use Rattle.xn_kura.specs.Flaws.{HasAKind, begins_at, goes_to, path_at}
 abbrev pub FiveExcludesFlat : Type 0
 FiveExcludesFlat =
     (web : Graph) (branch : List ℕ) (paths : List (List ℕ)) → EvidenceHolds web (Five branch paths) →
-    (next : ℕ → ℕ) → ¬ IsFlatMap web next
+    (next : ℕ → ℕ) → ¬ IsFlat web next
 
 -- nor has one in which three nodes are each joined to three others
 abbrev pub ThreeThreeExcludesFlat : Type 0
 ThreeThreeExcludesFlat =
     (web : Graph) (branch : List ℕ) (paths : List (List ℕ)) → EvidenceHolds web (ThreeThree branch paths) →
-    (next : ℕ → ℕ) → ¬ IsFlatMap web next
+    (next : ℕ → ℕ) → ¬ IsFlat web next
 
 -- so no web for which an evidence of either kind holds has one
 abbrev pub EvidenceExcludesFlat : Type 0
 EvidenceExcludesFlat =
-    (web : Graph) (evidence : Evidence) → HasAKind evidence → EvidenceHolds web evidence → (next : ℕ → ℕ) → ¬ IsFlatMap web next
+    (web : Graph) (evidence : Evidence) → HasAKind evidence → EvidenceHolds web evidence → (next : ℕ → ℕ) → ¬ IsFlat web next
 
 -- a drawing without crossings is a flat map of the graph itself
 abbrev pub CrossingFreeIsFlat : Type 0
 CrossingFreeIsFlat =
-    (g : Graph) (ord : ℕ → List ℕ) (next : ℕ → ℕ) → IsDrawing g ord next → crossing_count g ord ≡ 0 → IsFlatMap g next
+    (g : Graph) (ord : ℕ → List ℕ) (next : ℕ → ℕ) → IsDrawing g ord next → crossing_count g ord ≡ 0 → IsFlat g next
 
 -- so an evidence of either kind for the graph shows that each drawing has a crossing
 abbrev pub EvidenceOfCrossings : Type 0
 EvidenceOfCrossings =
     (g : Graph) (branch : List ℕ) (paths : List (List ℕ)) →
-    EvidenceHolds g (Five branch paths) ⊎ EvidenceHolds g (ThreeThree branch paths) → Least g 1
+    EvidenceHolds g (Five branch paths) ⊎ EvidenceHolds g (ThreeThree branch paths) → IsAtLeast g 1
 
 -- neither K5 nor K3,3 has a flat map, and every drawing of theirs has a crossing
 pub record KuratowskiGraphs : Type 0 where
-  pub k5_not_flat : (next : ℕ → ℕ) → ¬ IsFlatMap k5 next
-  pub k33_not_flat : (next : ℕ → ℕ) → ¬ IsFlatMap k33 next
-  pub k5_crosses : Least k5 1
-  pub k33_crosses : Least k33 1
+  pub k5_not_flat : (next : ℕ → ℕ) → ¬ IsFlat k5 next
+  pub k33_not_flat : (next : ℕ → ℕ) → ¬ IsFlat k33 next
+  pub k5_crosses : IsAtLeast k5 1
+  pub k33_crosses : IsAtLeast k33 1
 
 -- the crossing number of K5 is one
 abbrev pub K5HasOneCrossing : Type 0
@@ -71,4 +71,4 @@ pub record AreSomePaths (pairs : List (ℕ × ℕ)) (branch : List ℕ) (paths :
 abbrev pub SomePathsAreApart : Type 0
 SomePathsAreApart =
     (web : Graph) (pairs chosen : List (ℕ × ℕ)) (branch nodes : List ℕ) (paths turns : List (List ℕ)) (from : ℕ → ℕ) →
-    IsSubdivision web pairs branch paths → AreSomePaths pairs branch paths chosen nodes turns from → IsSubdivision web chosen nodes turns
+    IsPathSystem web pairs branch paths → AreSomePaths pairs branch paths chosen nodes turns from → IsPathSystem web chosen nodes turns

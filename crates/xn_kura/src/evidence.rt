@@ -1,8 +1,8 @@
 ghost use Rattle.std.specs.Prelude.{◌≡◌, ◌≤◌, ◌↔◌, IfErr, IfNone, IfSome, IsErrOf, IsOk, OnOk, length};
-ghost use Rattle.xn_model.specs.Evidence.{IsSubdivision, LeadAll};
+ghost use Rattle.xn_model.specs.Evidence.{IsPathSystem, LeadAll};
 ghost use Rattle.xn_kinds.specs.Row.{EvidenceHolds};
 ghost use Rattle.xn_kinds.specs.declared.flaws.EvidenceFlaw.{EvidenceFlaw};
-ghost use Rattle.xn_kura.specs.Flaws.{AreBranches, HasAKind, IsFirstFlaw, IsFirstFlawOf, IsFirstWrong, PairsWithin};
+ghost use Rattle.xn_kura.specs.Flaws.{AreBranches, HasAKind, IsFirstEvidenceFlaw, IsFirstFlawOf, IsFirstWrong, PairsWithin};
 ghost use Rattle.xn_kura.specs.Marks.{sizes_of};
 
 use crate::marks::Marks;
@@ -68,8 +68,8 @@ fn judge(
     requires paths { length paths.now ≡ length pairs.now }
     requires few { length branch.now ≤ 6 × length pairs.now ≤ 10 }
     requires sized { marks.old ≡ sizes_of web.now }
-    ensures ok { OnOk result (IsSubdivision web.now pairs.now branch.now paths.now) }
-    ensures err { IfErr result (IsFirstFlaw web.now pairs.now branch.now paths.now) }
+    ensures ok { OnOk result (IsPathSystem web.now pairs.now branch.now paths.now) }
+    ensures err { IfErr result (IsFirstEvidenceFlaw web.now pairs.now branch.now paths.now) }
     ensures ready { marks.new ≡ marks.old }
 {
     if let Some(i) = first_wrong_branch(web.nodes(), branch) {
@@ -111,7 +111,7 @@ fn lead(
     requires few { length pairs.now ≤ 10 }
     requires branches { AreBranches web.now.nodes branch.now }
     ensures ok { OnOk result (LeadAll web.now.ends branch.now pairs.now paths.now) }
-    ensures err { IfErr result (IsFirstFlaw web.now pairs.now branch.now paths.now) }
+    ensures err { IfErr result (IsFirstEvidenceFlaw web.now pairs.now branch.now paths.now) }
 {
     for (q, &(from, to)) in pairs.iter().enumerate() {
         match walk_end(web, branch[from], paths.at(q)) {

@@ -6,7 +6,7 @@ use Rattle.std.proofs.Common.{int_eq}
 use Rattle.std.proofs.lemmas.Bool.Decides.{Decides-int_eq}
 use Rattle.std.proofs.lemmas.Int.{ints}
 use Rattle.std.proofs.lemmas.Bool.{and_parts, eqb-true}
-use Rattle.xn_frac.specs.Ratio.{Ratio, whole, minus, Same, IsAtMost, IsBelow, ratio_of, IsFracOf}
+use Rattle.xn_frac.specs.Ratio.{Ratio, whole, minus, Same, IsNoMore, IsLess, ratio_of, IsFracOf}
 use Rattle.xn_frac.proofs.Gaps.{gaps, gap-same, by_gap3, by_gap4}
 use Rattle.xn_frac.proofs.Wholes.{times_one}
 use Rattle.xn_frac.proofs.Ratios.{cancel, swapped, above_product}
@@ -117,7 +117,7 @@ best_from lp point duals us qs p z v named len_point len_duals over_p over_q wit
   where
     bounded : (x : ℕ → Ratio) → (u : ℕ → ℤ) × (d : ℤ) × Common (length lp.cost) x u d →
         ((i : ℕ) → i < length lp.rows → IsOver (entry duals i) (number_at qs i) z) → IsOver (cost_of lp (entry point)) v z →
-        IsAtMost (cost_of lp (entry point)) (priced_cost lp (entry duals) x)
+        IsNoMore (cost_of lp (entry point)) (priced_cost lp (entry duals) x)
     bounded x (u, d, is) over_y cost =
         at_most-over (cost_of lp (entry point)) (priced_cost lp (entry duals) x) (v *ℤ d) (priced_total lp z (number_at qs) u d) (z *ℤ d)
         (above_times z d over_q.positive is.above) (over-wider (cost_of lp (entry point)) v z d cost)
@@ -169,7 +169,7 @@ ray_from lp ray qs z v named len_ray over_q natural least above =
     }
   where
     bounded : (g : Ratio) (t : ℤ) → IsOver g t z → v ≡ neg_ℤ t +ℤ combined_reach lp (number_at qs) → ((i : ℕ) → i < length lp.rows → IsOver (entry ray i) (number_at qs i) z) →
-        (x : ℕ → Ratio) → (u : ℕ → ℤ) × (d : ℤ) × Common (length lp.cost) x u d → IsAtMost (combined_sum lp (entry ray) x) g
+        (x : ℕ → Ratio) → (u : ℕ → ℤ) × (d : ℤ) × Common (length lp.cost) x u d → IsNoMore (combined_sum lp (entry ray) x) g
     bounded g t over_g value over_y x (u, d, is) =
         at_most-over (combined_sum lp (entry ray) x) g (combined_total lp (number_at qs) u) (t *ℤ d) (z *ℤ d) (above_times z d over_q.positive is.above)
         (combined_over lp (entry ray) x (number_at qs) u z d named over_y is.over) (over-wider g t z d over_g)
@@ -178,7 +178,7 @@ ray_from lp ray qs z v named len_ray over_q natural least above =
 
     passed : (u : ℕ → ℤ) × AreWithin (length lp.cost) u (pos 1) × (priced_total lp (pos 0) (number_at qs) u (pos 1) ≡ v) →
         ((i : ℕ) → i < length lp.rows → IsOver (entry ray i) (number_at qs i) z) →
-        (g : Ratio) × IsGreatest (length lp.cost) (combined_sum lp (entry ray)) g × IsBelow g (combined_least lp (entry ray))
+        (g : Ratio) × IsGreatest (length lp.cost) (combined_sum lp (entry ray)) g × IsLess g (combined_least lp (entry ray))
     passed (u, in_box, is) over_y =
         let ones : Common (length lp.cost) (λ j. whole (u j)) u (pos 1) = whole_common (length lp.cost) u in_box in
         let g : Ratio = combined_sum lp (entry ray) (λ j. whole (u j)) in

@@ -3,7 +3,7 @@ use Rattle.std.proofs.Common.{ℕ, ◌<◌, ◌↔◌, length, arith, sym, subst
 use Rattle.std.specs.Prelude.{ℤ, pos, negsuc, ◌*ℤ◌, ◌≤ℤ◌}
 use Rattle.std.proofs.Math.IntN.{*ℤ_comm, zero-*ℤ}
 use Rattle.std.proofs.lemmas.Int.{ints}
-use Rattle.xn_frac.specs.Ratio.{Ratio, whole, IsAtMost, IsBelow}
+use Rattle.xn_frac.specs.Ratio.{Ratio, whole, IsNoMore, IsLess}
 use Rattle.xn_frac.proofs.Ratios.{le_cancel, le_times, swapped}
 use Rattle.xn_lp.specs.Box.{entry, IsLeast, IsGreatest}
 use Rattle.xn_lp.specs.Program.{row_at, NamesColumns, cost_of, row_sum, IsPoint, AreMultipliers, priced_cost, combined_sum, combined_least, IsRay, AnswerHolds, IsNothing, HasNoPoint}
@@ -16,7 +16,7 @@ use Rattle.xn_lp.proofs.Over.{over-whole, over-wider, over-wider_left, at_most-o
 use Rattle.xn_lp.proofs.Boxes.{Common, common, CommonAny, common_any}
 use Rattle.xn_lp.proofs.Certificates.{row_over, cost_over, combined_over, reach_over, priced_over, above_times}
 
-IsAtMost-trans : (p q r : Ratio) → 0 < q.den → IsAtMost p q → IsAtMost q r → IsAtMost p r
+IsAtMost-trans : (p q r : Ratio) → 0 < q.den → IsNoMore p q → IsNoMore q r → IsNoMore p r
 IsAtMost-trans p q r above h k =
     le_cancel (p.num *ℤ pos r.den) (r.num *ℤ pos p.den) q.den above
     (let first : (p.num *ℤ pos r.den *ℤ pos q.den) ≤ℤ (q.num *ℤ pos p.den *ℤ pos r.den)
@@ -44,11 +44,11 @@ reach_met lp x y u q d z named point multipliers over_x over_y =
     subst (λ t. t ≤ℤ (q i *ℤ row_total (row_at lp i) u)) (sym (mul_assoc (q i) (row_at lp i).least d)) (times_le (q i) ((row_at lp i).least *ℤ d) (row_total (row_at lp i) u) natural met)))
 
 pub weak_duality : (lp : Lp) (x y : ℕ → Ratio) (v : Ratio) → NamesColumns lp → IsPoint lp x → AreMultipliers lp y →
-    IsLeast (length lp.cost) (priced_cost lp y) v → IsAtMost v (cost_of lp x)
+    IsLeast (length lp.cost) (priced_cost lp y) v → IsNoMore v (cost_of lp x)
 weak_duality lp x y v named point multipliers least =
     from (common (length lp.cost) x point.box) (common_any (length lp.rows) y (λ i l. (multipliers i l).positive))
   where
-    from : (u : ℕ → ℤ) × (d : ℤ) × Common (length lp.cost) x u d → (q : ℕ → ℤ) × (z : ℤ) × CommonAny (length lp.rows) y q z → IsAtMost v (cost_of lp x)
+    from : (u : ℕ → ℤ) × (d : ℤ) × Common (length lp.cost) x u d → (q : ℕ → ℤ) × (z : ℤ) × CommonAny (length lp.rows) y q z → IsNoMore v (cost_of lp x)
     from (u, d, over_x) (q, z, over_y) =
         let priced : IsOver (priced_cost lp y x) (priced_total lp z q u d) (z *ℤ d) = priced_over lp y x q u z d named over_y.over over_x.over in
         let met : (combined_reach lp q *ℤ d) ≤ℤ combined_total lp q u = reach_met lp x y u q d z named point multipliers over_x over_y in
@@ -57,7 +57,7 @@ weak_duality lp x y v named point multipliers least =
         (at_most-over (priced_cost lp y x) (cost_of lp x) (priced_total lp z q u d) (z *ℤ cost_total lp u) (z *ℤ d) (above_times z d over_y.above over_x.above) priced
         (over-wider_left (cost_of lp x) (cost_total lp u) d z (cost_over lp x u d over_x.over)) less)
 
-apart : (p q : Ratio) → IsBelow p q → IsAtMost q p → ⊥
+apart : (p q : Ratio) → IsLess p q → IsNoMore q p → ⊥
 apart p q h k = omega (arith, ints)
 
 pub ray_excludes : (lp : Lp) (y : ℕ → Ratio) → NamesColumns lp → IsRay lp y → HasNoPoint lp
@@ -65,11 +65,11 @@ ray_excludes lp y named is x point =
     from (common (length lp.cost) x point.box) (common_any (length lp.rows) y (λ i l. (is.ray i l).positive)) is.passes
   where
     from : (u : ℕ → ℤ) × (d : ℤ) × Common (length lp.cost) x u d → (q : ℕ → ℤ) × (z : ℤ) × CommonAny (length lp.rows) y q z →
-        (g : Ratio) × IsGreatest (length lp.cost) (combined_sum lp y) g × IsBelow g (combined_least lp y) → ⊥
+        (g : Ratio) × IsGreatest (length lp.cost) (combined_sum lp y) g × IsLess g (combined_least lp y) → ⊥
     from (u, d, over_x) (q, z, over_y) (g, greatest, passes) =
         let sum : IsOver (combined_sum lp y x) (combined_total lp q u) (z *ℤ d) = combined_over lp y x q u z d named over_y.over over_x.over in
         let reach : IsOver (combined_least lp y) (combined_reach lp q *ℤ d) (z *ℤ d) = over-wider (combined_least lp y) (combined_reach lp q) z d (reach_over lp y q z over_y.over) in
-        let met : IsAtMost (combined_least lp y) (combined_sum lp y x)
+        let met : IsNoMore (combined_least lp y) (combined_sum lp y x)
         = at_most-over (combined_least lp y) (combined_sum lp y x) (combined_reach lp q *ℤ d) (combined_total lp q u) (z *ℤ d) (above_times z d over_y.above over_x.above) reach sum
         (reach_met lp x y u q d z named point is.ray over_x over_y) in
         apart g (combined_least lp y) passes (IsAtMost-trans (combined_least lp y) (combined_sum lp y x) g sum.positive met (greatest.bound x point.box))

@@ -4,7 +4,7 @@ use Rattle.std.specs.Prelude.{ℤ, pos, negsuc, ◌+ℤ◌, ◌*ℤ◌, ◌≤�
 use Rattle.std.specs.Int.{is_negative}
 use Rattle.std.proofs.lemmas.Int.{ints}
 use Rattle.std.proofs.lemmas.Bool.{le-ltb}
-use Rattle.xn_frac.specs.Ratio.{Ratio, whole, plus, times, IsAtMost}
+use Rattle.xn_frac.specs.Ratio.{Ratio, whole, plus, times, IsNoMore}
 use Rattle.xn_frac.proofs.Wholes.{times_one}
 use Rattle.xn_lp.specs.Box.{sum_to, IsLeast, low_of}
 use Rattle.xn_lp.specs.Whole.{total_to, IsOver, low_part}
@@ -60,7 +60,7 @@ scaled_form n k c m g w above over_k over_c =
     pick_within z = chosen_within (is_negative z)
 
     bounded : (x : ℕ → Ratio) → (u : ℕ → ℤ) × (d : ℤ) × Common n x u d → IsOver (plus k (sum_to n (λ j. low_of (c j)))) (m +ℤ total_to n (λ j. low_part (g j))) w →
-        IsAtMost (plus k (sum_to n (λ j. low_of (c j)))) (plus k (sum_to n (λ j. times (c j) (x j))))
+        IsNoMore (plus k (sum_to n (λ j. low_of (c j)))) (plus k (sum_to n (λ j. times (c j) (x j))))
     bounded x (u, d, is) least =
         let parts : total_to n (λ j. low_part (g j) *ℤ d) ≤ℤ total_to n (λ j. g j *ℤ u j)
         = total-le n (λ j. low_part (g j) *ℤ d) (λ j. g j *ℤ u j) (λ j l. low_le (g j) (u j) d (is.within j l).0 (is.within j l).1) in

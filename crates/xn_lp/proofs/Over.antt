@@ -3,7 +3,7 @@ use Rattle.std.proofs.Common.{◌≡◌, ℕ, zero, suc, ◌*◌, ◌<◌, arith
 use Rattle.std.specs.Prelude.{ℤ, pos, negsuc, ◌+ℤ◌, ◌-ℤ◌, ◌*ℤ◌, neg_ℤ, ◌≤ℤ◌, ◌<ℤ◌}
 use Rattle.std.proofs.Math.IntN.{zero-*ℤ}
 use Rattle.std.proofs.lemmas.Int.{ints, by_lt_z}
-use Rattle.xn_frac.specs.Ratio.{Ratio, whole, plus, minus, minus_of, times, Same, IsAtMost, IsBelow}
+use Rattle.xn_frac.specs.Ratio.{Ratio, whole, plus, minus, minus_of, times, Same, IsNoMore, IsLess}
 use Rattle.xn_frac.proofs.Gaps.{gaps, gap-same, by_gap2, by_gap3, by_gap4}
 use Rattle.xn_frac.proofs.Ratios.{cancel, le_cancel, le_times, above_product}
 use Rattle.xn_frac.proofs.Wholes.{times_one}
@@ -116,17 +116,17 @@ right_side a b v z h = left_side b a v z h ∙ ap (λ d. v *ℤ pos d) (turned b
     turned : (m n : ℕ) → m * n ≡ n * m
     turned m n = omega arith
 
-pub at_most-over : (a b : Ratio) (u v z : ℤ) → pos 0 <ℤ z → IsOver a u z → IsOver b v z → u ≤ℤ v → IsAtMost a b
+pub at_most-over : (a b : Ratio) (u v z : ℤ) → pos 0 <ℤ z → IsOver a u z → IsOver b v z → u ≤ℤ v → IsNoMore a b
 at_most-over a b u v z above h k e = width (positive_is z above)
   where
-    width : (n : ℕ) × (z ≡ pos n) × (0 < n) → IsAtMost a b
+    width : (n : ℕ) × (z ≡ pos n) × (0 < n) → IsNoMore a b
     width (n, is, pos_n) =
         le_cancel (a.num *ℤ pos b.den) (b.num *ℤ pos a.den) n pos_n
         (subst (λ t. ((a.num *ℤ pos b.den) *ℤ t) ≤ℤ ((b.num *ℤ pos a.den) *ℤ t)) is
         (subst (λ t. t ≤ℤ ((b.num *ℤ pos a.den) *ℤ z)) (sym (left_side a b u z h))
         (subst (λ t. (u *ℤ pos (a.den * b.den)) ≤ℤ t) (sym (right_side a b v z k)) (le_times u v (a.den * b.den) e))))
 
-pub over-at_most : (a b : Ratio) (u v z : ℤ) → pos 0 <ℤ z → IsOver a u z → IsOver b v z → IsAtMost a b → u ≤ℤ v
+pub over-at_most : (a b : Ratio) (u v z : ℤ) → pos 0 <ℤ z → IsOver a u z → IsOver b v z → IsNoMore a b → u ≤ℤ v
 over-at_most a b u v z above h k e = width (positive_is z above)
   where
     width : (n : ℕ) × (z ≡ pos n) × (0 < n) → u ≤ℤ v
@@ -145,9 +145,9 @@ same-over a b u v z above h k e = width (positive_is z above)
         (subst (λ t. (a.num *ℤ pos b.den) *ℤ t ≡ (b.num *ℤ pos a.den) *ℤ t) is
         (left_side a b u z h ∙ ap (λ t. t *ℤ pos (a.den * b.den)) e ∙ sym (right_side a b v z k)))
 
-below_by_not : (a b : Ratio) → ¬ IsAtMost b a → IsBelow a b
+below_by_not : (a b : Ratio) → ¬ IsNoMore b a → IsLess a b
 below_by_not a b not_so = by_lt_z (a.num *ℤ pos b.den) (b.num *ℤ pos a.den) (λ h. h) (λ h. absurd (not_so h))
 
-pub below-over : (a b : Ratio) (u v z : ℤ) → pos 0 <ℤ z → IsOver a u z → IsOver b v z → u <ℤ v → IsBelow a b
+pub below-over : (a b : Ratio) (u v z : ℤ) → pos 0 <ℤ z → IsOver a u z → IsOver b v z → u <ℤ v → IsLess a b
 below-over a b u v z above h k e =
     below_by_not a b (λ other. let back : v ≤ℤ u = over-at_most b a v u z above k h other in absurd (omega (arith, ints)))

@@ -1,5 +1,5 @@
 use Rattle.std.specs.Prelude.{ℕ, ◌<◌, length, ◌↔◌}
-use Rattle.xn_frac.specs.Ratio.{Ratio, plus, times, IsAtMost}
+use Rattle.xn_frac.specs.Ratio.{Ratio, plus, times, IsNoMore}
 use Rattle.xn_lp.specs.Box.{sum_to, IsLeast, low_of}
 use Rattle.xn_lp.specs.Program.{NamesColumns, IsPoint, AreMultipliers, priced_cost, cost_of, IsRay, AnswerHolds, IsNothing, HasNoPoint}
 use Rattle.xn_lp.specs.declared.program.Lp.{Lp}
@@ -13,7 +13,7 @@ LeastOfForm = (n : ℕ) (k : Ratio) (c : ℕ → Ratio) → 0 < k.den → ((j : 
 -- no point costs less than the least value under any multipliers
 abbrev pub WeakDuality : Type 0
 WeakDuality = (lp : Lp) (x y : ℕ → Ratio) (v : Ratio) → NamesColumns lp → IsPoint lp x → AreMultipliers lp y →
-    IsLeast (length lp.cost) (priced_cost lp y) v → IsAtMost v (cost_of lp x)
+    IsLeast (length lp.cost) (priced_cost lp y) v → IsNoMore v (cost_of lp x)
 
 -- a program with a ray has no point
 abbrev pub RayExcludesPoints : Type 0

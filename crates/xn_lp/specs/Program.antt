@@ -1,5 +1,5 @@
 use Rattle.std.specs.Prelude.{◌≡◌, ℕ, ◌+◌, ◌*◌, ◌<◌, ◌⊎◌, ℤ, pos, List, [], length, slice_index_or, ⊤}
-use Rattle.xn_frac.specs.Ratio.{Ratio, whole, minus, times, IsAtMost, IsBelow, IsRefused}
+use Rattle.xn_frac.specs.Ratio.{Ratio, whole, minus, times, IsNoMore, IsLess, IsRefused}
 use Rattle.xn_lp.specs.Box.{sum_to, entry, IsInBox, IsLeast, IsGreatest}
 use Rattle.xn_lp.specs.declared.program.LpRow.{LpRow}
 use Rattle.xn_lp.specs.declared.program.Lp.{Lp}
@@ -35,12 +35,12 @@ cost_of lp x = sum_to (length lp.cost) (λ j. times (whole (cost_at lp j)) (x j)
 -- x lies in the box and meets every row
 pub record IsPoint (lp : Lp) (x : ℕ → Ratio) : Type 0 where
   pub box : IsInBox (length lp.cost) x
-  pub rows : (i : ℕ) → i < length lp.rows → IsAtMost (whole (row_at lp i).least) (row_sum (row_at lp i) x)
+  pub rows : (i : ℕ) → i < length lp.rows → IsNoMore (whole (row_at lp i).least) (row_sum (row_at lp i) x)
 
 -- a number that is at least 0
 pub record IsNatural (p : Ratio) : Type 0 where
   pub positive : 0 < p.den
-  pub low : IsAtMost (whole (pos 0)) p
+  pub low : IsNoMore (whole (pos 0)) p
 
 -- a multiplier of at least 0 for each row
 abbrev pub AreMultipliers : Lp → (ℕ → Ratio) → Type 0
@@ -71,7 +71,7 @@ pub record IsBest (lp : Lp) (x y : ℕ → Ratio) : Type 0 where
 -- y are multipliers, and what their row has to reach passes its greatest sum over the box
 pub record IsRay (lp : Lp) (y : ℕ → Ratio) : Type 0 where
   pub ray : AreMultipliers lp y
-  pub passes : (g : Ratio) × IsGreatest (length lp.cost) (combined_sum lp y) g × IsBelow g (combined_least lp y)
+  pub passes : (g : Ratio) × IsGreatest (length lp.cost) (combined_sum lp y) g × IsLess g (combined_least lp y)
 
 -- what each answer says
 abbrev pub AnswerHolds : Lp → LpAnswer → Type 0

@@ -3,7 +3,7 @@ use Rattle.std.proofs.Common.{◌≡◌, ◌≢◌, ℕ, suc, ◌+◌, ◌-◌, 
 use Rattle.std.specs.List.{range_with_len}
 use Rattle.xn_model.specs.Graph.{Graph}
 use Rattle.xn_model.specs.Lists.{at}
-use Rattle.xn_model.specs.Map.{IsFlat, IsMap, Joined}
+use Rattle.xn_model.specs.Map.{MeetsEuler, IsMap, Joined}
 use Rattle.xn_graph.specs.Limits.{graph_of}
 use Rattle.xn_surgery.specs.Corners as laws
 use Rattle.xn_surgery.specs.Insertion.{IsInsertion}
@@ -100,7 +100,7 @@ module _ (m : ListedMap) (listed : IsListedMap m) (a b : Corner) (a_in : IsCorne
 
   pub inserted_flat : (InOneFace (at m.next) a b ⊎ (Joined m.web.ends (node_of m a) (node_of m b) → ⊥)) → StaysFlat m (map_of web next)
   inserted_flat one_face flat =
-      let P : ℕ → Type 0 = λ k. IsFlat k web.ends (at next) in
+      let P : ℕ → Type 0 = λ k. MeetsEuler k web.ends (at next) in
       subst P (sym (ap (λ w. w.nodes) web_is))
       (insertion_flat m.web.nodes m.web.ends web.ends law_a law_b (at m.next) (at next) listed.is_map inserted
       (elim one_face [ inl same ↦ inl (law_face (at m.next) a b same) | inr apart ↦ inr apart ]) flat)
@@ -114,10 +114,10 @@ added_listed web next listed =
 
 pub added_flat : (web : Graph) (next : List ℕ) → IsListedMap (map_of web next) → StaysFlat (map_of web next) (map_of (graph_of (web.nodes + 1) web.ends) next)
 added_flat web next listed flat =
-    let P : ℕ → Type 0 = λ k. IsFlat k web.ends (at next) in
+    let P : ℕ → Type 0 = λ k. MeetsEuler k web.ends (at next) in
     let more : suc web.nodes ≡ web.nodes + 1 = omega arith in
     let ends_in = listed.is_map.ends_in in
-    let wide : IsFlat (suc web.nodes) web.ends (at next) = omega (arith, flat, lone_more web.nodes web.ends ends_in, components_more web.nodes web.ends ends_in) in
+    let wide : MeetsEuler (suc web.nodes) web.ends (at next) = omega (arith, flat, lone_more web.nodes web.ends ends_in, components_more web.nodes web.ends ends_in) in
     subst P more wide
 
 -- the two new darts are alone

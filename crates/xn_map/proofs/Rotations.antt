@@ -7,7 +7,7 @@ use Rattle.xn_model.specs.Map.{IsMap, tail_of}
 use Rattle.xn_model.specs.Permutation.{Permutes, Reaches, iterate}
 use Rattle.xn_ring.proofs.Orbits.{cases_reaches, first_below, reaches_back, reaches_trans}
 use Rattle.xn_map.specs.Marks.{MarksCycle, MarksCyclesBelow, is_marked}
-use Rattle.xn_map.specs.Rotation.{AreTogether, FlawsAreNoMaps, IsApart, IsFirst, IsRotationFlaw, LeadsRight, LeadsWrong, MarksTargets, MarksTails}
+use Rattle.xn_map.specs.Rotation.{AreTogether, FlawsAreNoMaps, IsAstray, IsFirst, IsRotationFlaw, LeadsRight, LeadsWrong, MarksTargets, MarksTails}
 use Rattle.xn_map.proofs.Marking.{cycle_marked, is_marked-set, marked_before}
 
 -- one more target
@@ -105,7 +105,7 @@ walk_stays ends next right (suc k) d d_in =
 pub record Together (ends : List (ℕ × ℕ)) (next : ℕ → ℕ) (d : ℕ) (begun met : List Bool) : Type 0 where
   pub nodes : MarksTails ends d begun
   pub darts : MarksCyclesBelow (2 * length ends) next d met
-  pub none : (e : ℕ) → e < d → ¬ (IsApart ends next e)
+  pub none : (e : ℕ) → e < d → ¬ (IsAstray ends next e)
 
 module _ (ends : List (ℕ × ℕ)) (next : ℕ → ℕ) (right : LeadsRight ends next) (d : ℕ) (d_in : d < 2 * length ends) (begun met : List Bool) (before : Together ends next d begun met) (node_in : tail_of ends d < length begun) where
   -- a dart in the ring of a smaller one is at its node
@@ -119,7 +119,7 @@ module _ (ends : List (ℕ × ℕ)) (next : ℕ → ℕ) (right : LeadsRight end
   fresh_dart fresh = false_from_ne_true _ (λ m. let found = (before.darts d d_in).0 m in both_ways _ fresh (ring_begun found.0 found.1 found.2))
 
   -- nor is it apart
-  not_apart_first : is_marked begun (tail_of ends d) ≡ false → ¬ (IsApart ends next d)
+  not_apart_first : is_marked begun (tail_of ends d) ≡ false → ¬ (IsAstray ends next d)
   not_apart_first fresh apart = elim (cases_lt apart.0 d) [
     | inl below ↦ both_ways _ fresh ((before.nodes (tail_of ends d) node_in).1 (apart.0, below, apart.1.here))
     | inr high ↦ elim (cases_eq apart.0 d) [
@@ -129,7 +129,7 @@ module _ (ends : List (ℕ × ℕ)) (next : ℕ → ℕ) (right : LeadsRight end
   ]
 
   -- a marked dart isn't apart
-  not_apart_met : is_marked met d ≡ true → ¬ (IsApart ends next d)
+  not_apart_met : is_marked met d ≡ true → ¬ (IsAstray ends next d)
   not_apart_met m apart =
       let found = (before.darts d d_in).0 m in
       let c = found.0 in
@@ -147,18 +147,18 @@ module _ (ends : List (ℕ × ℕ)) (next : ℕ → ℕ) (right : LeadsRight end
   Together-first new fresh marked = record {
     nodes = MarksTails-more ends d begun node_in before.nodes;
     darts = cycle_marked (2 * length ends) next (Permutes-from_right ends next right) d met before.darts new marked;
-    none = below_more (λ e. ¬ (IsApart ends next e)) d before.none (not_apart_first fresh);
+    none = below_more (λ e. ¬ (IsAstray ends next e)) d before.none (not_apart_first fresh);
   }
 
   pub Together-met : is_marked begun (tail_of ends d) ≡ true → is_marked met d ≡ true → Together ends next (d + 1) begun met
   Together-met was m = record {
     nodes = MarksTails-same ends d begun node_in was before.nodes;
     darts = marked_before (2 * length ends) next (Permutes-from_right ends next right) d met before.darts d_in m;
-    none = below_more (λ e. ¬ (IsApart ends next e)) d before.none (not_apart_met m);
+    none = below_more (λ e. ¬ (IsAstray ends next e)) d before.none (not_apart_met m);
   }
 
   -- a dart of a node that has begun is apart where it isn't marked
-  pub IsFirst-apart : is_marked begun (tail_of ends d) ≡ true → is_marked met d ≡ false → IsFirst (IsApart ends next) d
+  pub IsFirst-apart : is_marked begun (tail_of ends d) ≡ true → is_marked met d ≡ false → IsFirst (IsAstray ends next) d
   IsFirst-apart was unmet =
       let earlier = (before.nodes (tail_of ends d) node_in).0 was in
       let least = least_dart ends d in
@@ -199,7 +199,7 @@ IsMap-from_right nodes ends next ends_in right together =
 
 -- successors that lead no dart wrong are a map, or have a flaw
 pub flaw_or_map : (nodes : ℕ) (ends : List (ℕ × ℕ)) (next : ℕ → ℕ) (n : ℕ) (flaw : Option ℕ) → n ≡ 2 * length ends → EndsIn nodes ends → LeadsRight ends next →
-    MatchOption flaw (AreTogether ends next) (λ d. (d < n) × IsFirst (IsApart ends next) d) → MatchOption flaw (IsMap nodes ends next) (IsRotationFlaw ends next)
+    MatchOption flaw (AreTogether ends next) (λ d. (d < n) × IsFirst (IsAstray ends next) d) → MatchOption flaw (IsMap nodes ends next) (IsRotationFlaw ends next)
 flaw_or_map nodes ends next n None darts ends_in right together = IsMap-from_right nodes ends next ends_in right together
 flaw_or_map nodes ends next n (Some d) darts ends_in right apart = (omega (arith, apart.0, darts), inr (right, apart.1))
 

@@ -5,7 +5,7 @@ use Rattle.std.proofs.lemmas.Bool.{cases_eq, cond-true, cond-false, eq-eqb, ne_e
 use Rattle.std.proofs.lemmas.List.{get_or_append_left, get_or_at, get_or-set_other, get_or-set_same, length-set, set-append_left}
 use Rattle.xn_model.specs.Graph.{Graph, ends_at}
 use Rattle.xn_model.specs.Lists.{at}
-use Rattle.xn_model.specs.Map.{IsFlat, IsMap}
+use Rattle.xn_model.specs.Map.{MeetsEuler, IsMap}
 use Rattle.xn_model.specs.Permutation.{IsSplice, Permutes}
 use Rattle.xn_graph.specs.Limits.{graph_of}
 use Rattle.xn_surgery.specs.Subdivision.{IsSubdivision, dart_now}
@@ -173,8 +173,8 @@ module _ (m : ListedMap) (listed : IsListedMap m) (s : ℕ) (s_in : s < length m
   subdivided_flat flat =
       let faces = faces_more m.web.nodes s m.web.ends web.ends (at m.next) (at next) listed.is_map subdivided in
       let components = components_more m.web.nodes s m.web.ends web.ends (at m.next) (at next) listed.is_map subdivided in
-      let wide : IsFlat (suc m.web.nodes) web.ends (at next) = omega (arith, flat, faces, components, subdivided.longer) in
-      let P : ℕ → Type 0 = λ k. IsFlat k web.ends (at next) in
+      let wide : MeetsEuler (suc m.web.nodes) web.ends (at next) = omega (arith, flat, faces, components, subdivided.longer) in
+      let P : ℕ → Type 0 = λ k. MeetsEuler k web.ends (at next) in
       subst P more wide
 
 -- what subdivide leaves of the map now

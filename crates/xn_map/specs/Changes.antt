@@ -1,7 +1,7 @@
 -- What the calls that change a map leave.
 use Rattle.std.specs.Prelude.{◌≡◌, ℕ, ◌+◌, ◌*◌, ◌<◌, ◌≤◌, ◌==◌, List, length, if◌then◌else◌}
 use Rattle.xn_model.specs.Lists.{at}
-use Rattle.xn_model.specs.Map.{IsFlat}
+use Rattle.xn_model.specs.Map.{MeetsEuler}
 use Rattle.xn_model.specs.Permutation.{Permutes, without}
 use Rattle.xn_genus.specs.Deletion.{IsDeletion, dart_before}
 use Rattle.xn_surgery.specs.Corners as laws
@@ -21,7 +21,7 @@ node_of m c = laws.node_of m.web.ends (corner_of c)
 
 -- where the map was flat it is flat
 abbrev pub StaysFlat : ListedMap → ListedMap → Type 0
-StaysFlat old new = IsFlat old.web.nodes old.web.ends (at old.next) → IsFlat new.web.nodes new.web.ends (at new.next)
+StaysFlat old new = MeetsEuler old.web.nodes old.web.ends (at old.next) → MeetsEuler new.web.nodes new.web.ends (at new.next)
 
 -- one segment more, the last, from corner to corner
 abbrev pub Inserts : ListedMap → Corner → Corner → ListedMap → Type 0

@@ -2,7 +2,7 @@
 use Rattle.std.specs.Prelude.{◌≡◌, ℕ, ◌+◌, ◌*◌, List, length}
 use Rattle.xn_model.specs.Graph.{Graph}
 use Rattle.xn_model.specs.Lists.{at}
-use Rattle.xn_model.specs.Map.{IsFlat, IsMap, component_count, face_count}
+use Rattle.xn_model.specs.Map.{MeetsEuler, IsMap, component_count, face_count}
 use Rattle.xn_graph.specs.declared.counts.Euler.{Euler}
 
 -- a web, and for each dart the next one round its node
@@ -29,7 +29,7 @@ components_of m = component_count m.web.nodes m.web.ends
 
 -- it has genus zero
 abbrev pub IsFlatListed : ListedMap → Type 0
-IsFlatListed m = IsFlat m.web.nodes m.web.ends (at m.next)
+IsFlatListed m = MeetsEuler m.web.nodes m.web.ends (at m.next)
 
 -- the two sides of V + F = 2C + E, added
 abbrev pub sum_of : Euler → ℕ

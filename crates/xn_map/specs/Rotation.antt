@@ -20,17 +20,17 @@ abbrev pub LeadsRight : List (ℕ × ℕ) → (ℕ → ℕ) → Type 0
 LeadsRight ends next = (d : ℕ) → d < 2 * length ends → ¬ (LeadsWrong ends next d)
 
 -- d isn't in the ring of the least dart at its node
-abbrev pub IsApart : List (ℕ × ℕ) → (ℕ → ℕ) → ℕ → Type 0
-IsApart ends next d = (c : ℕ) × IsFirst (λ e. tail_of ends e ≡ tail_of ends d) c × ¬ (Reaches next c d)
+abbrev pub IsAstray : List (ℕ × ℕ) → (ℕ → ℕ) → ℕ → Type 0
+IsAstray ends next d = (c : ℕ) × IsFirst (λ e. tail_of ends e ≡ tail_of ends d) c × ¬ (Reaches next c d)
 
 -- the darts at each node are in one ring
 abbrev pub AreTogether : List (ℕ × ℕ) → (ℕ → ℕ) → Type 0
-AreTogether ends next = (d : ℕ) → d < 2 * length ends → ¬ (IsApart ends next d)
+AreTogether ends next = (d : ℕ) → d < 2 * length ends → ¬ (IsAstray ends next d)
 
 -- d is the first dart that next leads wrong; if it leads none wrong, the first that is apart
 abbrev pub IsRotationFlaw : List (ℕ × ℕ) → (ℕ → ℕ) → ℕ → Type 0
 IsRotationFlaw ends next d =
-    (d < 2 * length ends) × (IsFirst (LeadsWrong ends next) d ⊎ (LeadsRight ends next × IsFirst (IsApart ends next) d))
+    (d < 2 * length ends) × (IsFirst (LeadsWrong ends next) d ⊎ (LeadsRight ends next × IsFirst (IsAstray ends next) d))
 
 -- the dart that is the flaw, if there is one; else a map
 abbrev pub IsFlawOrMap : Graph → (ℕ → ℕ) → Option ℕ → Type 0

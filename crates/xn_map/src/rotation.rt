@@ -3,7 +3,7 @@ ghost use Rattle.std.specs.Prelude.{◌≡◌, ℕ, ◌+◌, ◌*◌, ◌^◌, �
 ghost use Rattle.xn_model.specs.Lists.{at};
 ghost use Rattle.xn_model.specs.Permutation.{Permutes};
 ghost use Rattle.xn_map.specs.Marks.{IsClosed, MarksCycle, is_marked};
-ghost use Rattle.xn_map.specs.Rotation.{AreTogether, IsApart, IsFirst, IsFlawOrMap, LeadsRight, LeadsWrong, MarksTargets};
+ghost use Rattle.xn_map.specs.Rotation.{AreTogether, IsAstray, IsFirst, IsFlawOrMap, LeadsRight, LeadsWrong, MarksTargets};
 
 use crate::darts::tail;
 use std::alloc::{AllocError, Global};
@@ -60,7 +60,7 @@ fn first_apart(begun: &mut [bool], met: &mut [bool], web: &Web, next: &[u32]) ->
     requires none_begun { begun.old ≡ replicate web.now.nodes false }
     requires none_met { met.old ≡ replicate (length next.now) false }
     ensures { MatchOption result (AreTogether web.now.ends (at next.now))
-        (λ d. (d < length next.now) × IsFirst (IsApart web.now.ends (at next.now)) d) }
+        (λ d. (d < length next.now) × IsFirst (IsAstray web.now.ends (at next.now)) d) }
 {
     for d in 0..2 * web.segments() {
         let node = tail(web, d) as usize;

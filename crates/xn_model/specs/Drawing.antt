@@ -2,7 +2,7 @@
 use Rattle.std.specs.Prelude.{◌≡◌, ℕ, ◌+◌, ◌*◌, ◌<◌, ◌≤◌, true, List, length}
 use Rattle.xn_model.specs.Graph.{Graph, edges_of}
 use Rattle.xn_model.specs.Lists.{has, position_in, at}
-use Rattle.xn_model.specs.Map.{IsFlatMap}
+use Rattle.xn_model.specs.Map.{IsFlat}
 use Rattle.xn_model.specs.Orders.{IsOrders, order_at, crossing_count}
 use Rattle.xn_model.specs.Web.{web_of, first_segment}
 
@@ -15,7 +15,7 @@ CrossesAt edges ord next e f =
 -- the map of the planarised graph is flat, and the edges cross at each crossing
 pub record IsDrawing (g : Graph) (ord : ℕ → List ℕ) (next : ℕ → ℕ) : Type 0 where
   pub orders : IsOrders g.ends (edges_of g) ord
-  pub is_flat_map : IsFlatMap (web_of g (edges_of g) ord) next
+  pub is_flat_map : IsFlat (web_of g (edges_of g) ord) next
   pub crosses : (e f : ℕ) → e < f → has (ord e) f ≡ true → CrossesAt (edges_of g) ord next e f
 
 -- the lists of all edges as a function
@@ -29,8 +29,8 @@ pub record IsListedDrawing (g : Graph) (lists : List (List ℕ)) (next : List �
   pub drawing : IsDrawing g (order_of g lists) (at next)
 
 -- every drawing has at least k crossings
-abbrev pub Least : Graph → ℕ → Type 0
-Least g k = (ord : ℕ → List ℕ) (next : ℕ → ℕ) → IsDrawing g ord next → k ≤ crossing_count g ord
+abbrev pub IsAtLeast : Graph → ℕ → Type 0
+IsAtLeast g k = (ord : ℕ → List ℕ) (next : ℕ → ℕ) → IsDrawing g ord next → k ≤ crossing_count g ord
 
 -- some drawing has at most k crossings
 abbrev pub IsAtMost : Graph → ℕ → Type 0
@@ -38,5 +38,5 @@ IsAtMost g k = (ord : ℕ → List ℕ) × (next : ℕ → ℕ) × IsDrawing g o
 
 -- k is the crossing number
 pub record IsCrossingNumber (g : Graph) (k : ℕ) : Type 0 where
-  pub least : Least g k
+  pub least : IsAtLeast g k
   pub at_most : IsAtMost g k

@@ -34,7 +34,7 @@ all_inner ends branch (p ∷ ps) [] = []
 all_inner ends branch (p ∷ ps) (path ∷ paths) = inner_nodes ends (slice_index branch p.0) path ++ all_inner ends branch ps paths
 
 -- a path for each of these pairs of branch nodes; no segment is used twice, and no node is met twice
-pub record IsSubdivision (web : Graph) (pairs : List (ℕ × ℕ)) (branch : List ℕ) (paths : List (List ℕ)) : Type 0 where
+pub record IsPathSystem (web : Graph) (pairs : List (ℕ × ℕ)) (branch : List ℕ) (paths : List (List ℕ)) : Type 0 where
   pub below : All (λ v. v < web.nodes) branch
   pub lead : LeadAll web.ends branch pairs paths
   pub once : IsDistinct nat_eq (concat paths)
@@ -50,8 +50,8 @@ three_pairs = (0, 3) ∷ (0, 4) ∷ (0, 5) ∷ (1, 3) ∷ (1, 4) ∷ (1, 5) ∷ 
 
 -- five branch nodes, each two joined by a path
 abbrev pub IsFive : Graph → List ℕ → List (List ℕ) → Type 0
-IsFive web branch paths = (length branch ≡ 5) × IsSubdivision web five_pairs branch paths
+IsFive web branch paths = (length branch ≡ 5) × IsPathSystem web five_pairs branch paths
 
 -- three branch nodes, each joined by a path to each of three others
 abbrev pub IsThreeThree : Graph → List ℕ → List (List ℕ) → Type 0
-IsThreeThree web branch paths = (length branch ≡ 6) × IsSubdivision web three_pairs branch paths
+IsThreeThree web branch paths = (length branch ≡ 6) × IsPathSystem web three_pairs branch paths

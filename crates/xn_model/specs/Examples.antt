@@ -4,7 +4,7 @@ use Rattle.xn_model.specs.Drawing.{CrossesAt, IsAtMost, IsListedDrawing, order_o
 use Rattle.xn_model.specs.Graph.{Graph, edges_of, pairs_of, pair_count_of}
 use Rattle.xn_model.specs.Lists.{at}
 use Rattle.xn_model.specs.Limit.{node_limit}
-use Rattle.xn_model.specs.Map.{IsFlat, IsFlatMap, face_count, component_count}
+use Rattle.xn_model.specs.Map.{MeetsEuler, IsFlat, face_count, component_count}
 use Rattle.xn_model.specs.Orders.{crossing_count}
 use Rattle.xn_model.specs.Web.{web_of}
 
@@ -24,13 +24,13 @@ k4_torus_turns = 2 ∷ 8 ∷ 4 ∷ 7 ∷ 0 ∷ 9 ∷ 1 ∷ 10 ∷ 6 ∷ 11 ∷ 3
 pub record K4IsFlat : Type 0 where
   pub faces : face_count 4 k4.ends (at k4_turns) ≡ 4
   pub components : component_count 4 k4.ends ≡ 1
-  pub flat_map : IsFlatMap k4 (at k4_turns)
+  pub flat_map : IsFlat k4 (at k4_turns)
   pub pairs : pairs_of k4.ends (edges_of k4) ≡ (0, 5) ∷ (1, 4) ∷ (2, 3) ∷ []
 
 -- with two faces it isn't flat
 pub record K4OnTorus : Type 0 where
   pub faces : face_count 4 k4.ends (at k4_torus_turns) ≡ 2
-  pub not_flat : ¬ (IsFlat 4 k4.ends (at k4_torus_turns))
+  pub not_flat : ¬ (MeetsEuler 4 k4.ends (at k4_torus_turns))
 
 -- five nodes, each two joined
 abbrev pub k5 : Graph
@@ -56,7 +56,7 @@ pub record K5WithOneCrossing : Type 0 where
   pub segments : k5_web.ends ≡ (0, 5) ∷ (5, 1) ∷ (0, 2) ∷ (0, 3) ∷ (0, 4) ∷ (1, 2) ∷ (1, 3) ∷ (1, 4) ∷ (2, 3) ∷ (2, 4) ∷ (3, 5) ∷ (5, 4) ∷ []
   pub pairs : pair_count_of k5 ≡ 15
   pub faces : face_count 6 k5_web.ends (at k5_turns) ≡ 8
-  pub flat_map : IsFlatMap k5_web (at k5_turns)
+  pub flat_map : IsFlat k5_web (at k5_turns)
   pub crosses : CrossesAt (edges_of k5) (order_of k5 k5_orders) (at k5_turns) 0 9
   pub touches : ¬ (CrossesAt (edges_of k5) (order_of k5 k5_orders) (at k5_touching_turns) 0 9)
   pub count : crossing_count k5 (order_of k5 k5_orders) ≡ 1
@@ -78,4 +78,4 @@ PairsOfK33 = pairs_of k33.ends (edges_of k33) ≡
 pub record TwoLoneNodes : Type 0 where
   pub faces : face_count 2 [] (at []) ≡ 2
   pub components : component_count 2 [] ≡ 2
-  pub flat : IsFlat 2 [] (at [])
+  pub flat : MeetsEuler 2 [] (at [])

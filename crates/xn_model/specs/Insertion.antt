@@ -24,7 +24,7 @@ GrowsFromFirst ends [] = ⊥
 GrowsFromFirst ends (s ∷ rest) = (s < length ends) × Follow ends (s ∷ []) rest
 
 -- c is a dart of the segments that are in, at the node of d: the corner after c is one of that node
-pub record IsCorner (ends : List (ℕ × ℕ)) (done : List ℕ) (d c : ℕ) : Type 0 where
+pub record IsOldCorner (ends : List (ℕ × ℕ)) (done : List ℕ) (d c : ℕ) : Type 0 where
   pub in_map : has done (c / 2) ≡ true
   pub same_node : tail_of ends c ≡ tail_of ends d
 
@@ -37,7 +37,7 @@ pub record StandsAfter (n d c : ℕ) (before after : ℕ → ℕ) : Type 0 where
 -- the end with the dart e is new: d goes to any corner of its node
 pub record HangsAt (ends : List (ℕ × ℕ)) (done : List ℕ) (d e : ℕ) (before after : ℕ → ℕ) : Type 0 where
   pub corner : ℕ
-  pub is_corner : IsCorner ends done d corner
+  pub is_corner : IsOldCorner ends done d corner
   pub new_end : is_old ends done (tail_of ends e) ≡ false
   pub stands : StandsAfter (2 * length ends) d corner before after
 
@@ -45,8 +45,8 @@ pub record HangsAt (ends : List (ℕ × ℕ)) (done : List ℕ) (d e : ℕ) (bef
 pub record CutsFace (ends : List (ℕ × ℕ)) (done : List ℕ) (s : ℕ) (before after : ℕ → ℕ) : Type 0 where
   pub first : ℕ
   pub second : ℕ
-  pub is_first : IsCorner ends done (2 * s) first
-  pub is_second : IsCorner ends done (2 * s + 1) second
+  pub is_first : IsOldCorner ends done (2 * s) first
+  pub is_second : IsOldCorner ends done (2 * s + 1) second
   pub one_face : Reaches (face_step before) (before first) (before second)
   pub between : ℕ → ℕ
   pub first_stands : StandsAfter (2 * length ends) (2 * s) first before between
@@ -70,7 +70,7 @@ ReachesEnd ends [] last = ⊥
 ReachesEnd ends (s ∷ rest) last = Extends ends (s ∷ []) rest (λ d. d) last
 
 -- a list of a web without loops whose end no flat insertions reach
-pub record IsExtension (web : Graph) (list : List ℕ) : Type 0 where
+pub record IsStuck (web : Graph) (list : List ℕ) : Type 0 where
   pub no_loop : HasNoLoop web.ends
   pub grows : GrowsFromFirst web.ends list
   pub stuck : (last : ℕ → ℕ) → ReachesEnd web.ends list last → ⊥

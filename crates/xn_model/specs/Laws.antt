@@ -1,11 +1,11 @@
 -- What the definitions of drawings give at once.
 use Rattle.std.specs.Prelude.{ℕ, ◌≤◌}
-use Rattle.xn_model.specs.Drawing.{Least, IsAtMost, IsCrossingNumber}
+use Rattle.xn_model.specs.Drawing.{IsAtLeast, IsAtMost, IsCrossingNumber}
 use Rattle.xn_model.specs.Graph.{Graph}
 
 -- a lower bound gives each smaller one
 abbrev pub LeastFalls : Type 0
-LeastFalls = (g : Graph) (k j : ℕ) → Least g k → j ≤ k → Least g j
+LeastFalls = (g : Graph) (k j : ℕ) → IsAtLeast g k → j ≤ k → IsAtLeast g j
 
 -- an upper bound gives each greater one
 abbrev pub AtMostRises : Type 0
@@ -13,7 +13,7 @@ AtMostRises = (g : Graph) (k j : ℕ) → IsAtMost g k → k ≤ j → IsAtMost 
 
 -- no lower bound passes an upper one
 abbrev pub BoundsMeet : Type 0
-BoundsMeet = (g : Graph) (low high : ℕ) → Least g low → IsAtMost g high → low ≤ high
+BoundsMeet = (g : Graph) (low high : ℕ) → IsAtLeast g low → IsAtMost g high → low ≤ high
 
 -- a graph has one crossing number
 abbrev pub OneCrossingNumber : Type 0

@@ -3,7 +3,7 @@ use Rattle.std.specs.Prelude.{◌≡◌, ℕ, ◌+◌, ◌*◌, ◌/◌, ◌<◌
 use Rattle.std.specs.List.{IsDistinct, flat_map}
 use Rattle.xn_model.specs.Graph.{Graph, ends_at}
 use Rattle.xn_model.specs.Lists.{has, total, one_if}
-use Rattle.xn_model.specs.Map.{IsFlatMap, WalksTo, tail_of, reverse_of, face_step}
+use Rattle.xn_model.specs.Map.{IsFlat, WalksTo, tail_of, reverse_of, face_step}
 use Rattle.xn_model.specs.Orders.{IsEdgeList}
 use Rattle.xn_model.specs.Permutation.{Reaches, count_below}
 
@@ -26,7 +26,7 @@ dart_count ends v = count_below (2 * length ends) (λ d. tail_of ends d == v)
 pub record IsLoose (g : Graph) (edges : List ℕ) (further : ℕ) (web : Graph) (next : ℕ → ℕ) (walks : ℕ → List ℕ) : Type 0 where
   pub edge_list : IsEdgeList (length g.ends) edges
   pub nodes : web.nodes ≡ g.nodes + further
-  pub is_flat_map : IsFlatMap web next
+  pub is_flat_map : IsFlat web next
   pub lead : (e : ℕ) → has edges e ≡ true → WalksTo web.ends (ends_at g.ends e).0 (walks e) (ends_at g.ends e).1
   pub straight : (e : ℕ) → has edges e ≡ true → GoesStraight g.nodes web.ends next (walks e)
   pub once : (s : ℕ) → s < length web.ends → times_walked s (flat_map walks edges) ≡ 1

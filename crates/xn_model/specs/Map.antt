@@ -72,10 +72,10 @@ component_count nodes ends = let labels = component_labels nodes ends in count_b
 -- ---- genus zero
 
 -- V - E + F = 2C, by addition
-abbrev pub IsFlat : ℕ → List (ℕ × ℕ) → (ℕ → ℕ) → Type 0
-IsFlat nodes ends next = nodes + face_count nodes ends next ≡ 2 * component_count nodes ends + length ends
+abbrev pub MeetsEuler : ℕ → List (ℕ × ℕ) → (ℕ → ℕ) → Type 0
+MeetsEuler nodes ends next = nodes + face_count nodes ends next ≡ 2 * component_count nodes ends + length ends
 
 -- next makes of the web a map of genus zero
-pub record IsFlatMap (web : Graph) (next : ℕ → ℕ) : Type 0 where
+pub record IsFlat (web : Graph) (next : ℕ → ℕ) : Type 0 where
   pub is_map : IsMap web.nodes web.ends next
-  pub flat : IsFlat web.nodes web.ends next
+  pub flat : MeetsEuler web.nodes web.ends next

@@ -4,10 +4,10 @@ use Rattle.std.specs.List.{flat_map, range_with_len}
 use Rattle.std.proofs.lemmas.Bool.{both_ways, cases_Bool, cases_lt, eqb-true}
 use Rattle.std.proofs.lemmas.List.{length-map}
 use Rattle.std.proofs.lemmas.List.FromFn.{get_or-map-range_with_len, length-range_with_len}
-use Rattle.xn_model.specs.Drawing.{IsAtMost, IsDrawing, Least, order_of}
+use Rattle.xn_model.specs.Drawing.{IsAtMost, IsDrawing, IsAtLeast, order_of}
 use Rattle.xn_model.specs.Graph.{Graph, edges_of, ends_at}
 use Rattle.xn_model.specs.Lists.{at, has, position_in, total}
-use Rattle.xn_model.specs.Map.{IsFlatMap, face_count, face_step, is_lone, reverse_of, tail_of}
+use Rattle.xn_model.specs.Map.{IsFlat, face_count, face_step, is_lone, reverse_of, tail_of}
 use Rattle.xn_model.specs.Orders.{IsOrders, crossing_count, crossings_of}
 use Rattle.xn_model.specs.Permutation.{count_below}
 use Rattle.xn_model.specs.Web.{crossing_node, first_segment, segments_of, segments_through, web_of}
@@ -92,14 +92,14 @@ turns-at n next d low = get_or-map-range_with_len next 0 n d d 0 low (omega arit
 length-turns : (n : ℕ) (next : ℕ → ℕ) → length (turns_of n next) ≡ n
 length-turns n next = length-map (range_with_len 0 n) next ∙ length-range_with_len 0 n
 
-module _ (web : Graph) (next turns : ℕ → ℕ) (same : (d : ℕ) → d < 2 * length web.ends → turns d ≡ next d) (flat : IsFlatMap web next) where
+module _ (web : Graph) (next turns : ℕ → ℕ) (same : (d : ℕ) → d < 2 * length web.ends → turns d ≡ next d) (flat : IsFlat web next) where
   faces_same : face_count web.nodes web.ends turns ≡ face_count web.nodes web.ends next
   faces_same =
       let m = length web.ends in
       ap (λ n. n + count_below web.nodes (is_lone web.ends))
       (cycle_count-agrees (2 * m) (face_step next) (face_step turns) (Permutes-face m next flat.is_map.permutes) (λ d low. same (reverse_of d) (reverse_below m d low)))
 
-  pub flat_from_same : IsFlatMap web turns
+  pub flat_from_same : IsFlat web turns
   flat_from_same =
       let n = 2 * length web.ends in
       let map_is = flat.is_map in
@@ -163,7 +163,7 @@ lists_from_at_most g k drawing =
 pub at_most_from_lists : (g : Graph) (k left : ℕ) → CanList g k left [] → IsAtMost g k
 at_most_from_lists g k left can = (order_of g can.rest, at can.drawn.next, can.drawn.drawing.drawing, can.drawn.few)
 
-pub least_from_none : (g : Graph) (k : ℕ) → (CanList g k (2 * k) [] → ⊥) → Least g (k + 1)
+pub least_from_none : (g : Graph) (k : ℕ) → (CanList g k (2 * k) [] → ⊥) → IsAtLeast g (k + 1)
 least_from_none g k none ord next drawn = elim (cases_lt k (crossing_count g ord)) [
   | inl more ↦ omega (arith, more)
   | inr few ↦ absurd (none (lists_from_at_most g k (ord, next, drawn, few)))

@@ -3,7 +3,7 @@ use Rattle.std.proofs.Common.{◌≡◌, ℕ, zero, suc, ◌+◌, ◌*◌, ◌/�
 use Rattle.std.specs.Prelude.{All}
 use Rattle.std.proofs.lemmas.Bool.{both_ways, cases_eq, eqb-true, or_cases}
 use Rattle.xn_model.specs.Graph.{Graph}
-use Rattle.xn_model.specs.Insertion.{CutsFace, FlatInsertion, HangsAt, IsCorner, StandsAfter}
+use Rattle.xn_model.specs.Insertion.{CutsFace, FlatInsertion, HangsAt, IsOldCorner, StandsAfter}
 use Rattle.xn_model.specs.Lists.{at, has}
 use Rattle.xn_model.specs.Map.{face_step, reverse_of}
 use Rattle.xn_model.specs.Permutation.{Reaches, iterate}
@@ -20,7 +20,7 @@ All-at P (y ∷ ys) all x h = elim (or_cases (eqb y x) (has ys x) h) [
 ]
 
 -- a corner is after a dart of the web
-pub corner_below : (web : Graph) (done : List ℕ) → AreSegments web done → (d c : ℕ) → IsCorner web.ends done d c → c < 2 * length web.ends
+pub corner_below : (web : Graph) (done : List ℕ) → AreSegments web done → (d c : ℕ) → IsOldCorner web.ends done d c → c < 2 * length web.ends
 corner_below web done segments d c corner =
     let low = All-at (λ s. s < length web.ends) done segments (c / 2) corner.in_map in omega (arith, low)
 

@@ -4,7 +4,7 @@ use Rattle.std.specs.List.{flat_map, list_all}
 use Rattle.xn_model.specs.Drawing.{IsListedDrawing, order_of}
 use Rattle.xn_model.specs.Graph.{Graph, edges_of, ends_at, independent}
 use Rattle.xn_model.specs.Lists.{at, has, position_in}
-use Rattle.xn_model.specs.Map.{IsFlatMap}
+use Rattle.xn_model.specs.Map.{IsFlat}
 use Rattle.xn_model.specs.Web.{crossing_node, first_segment, segments_of, segments_through}
 use Rattle.xn_kinds.specs.declared.drawings.Drawing.{Drawing}
 
@@ -45,7 +45,7 @@ AreShort lists = All (λ l. length l ≤ 1000) lists
 
 -- two turns for each segment, and they make a flat map
 abbrev pub IsListedFlatMap : Graph → List ℕ → Type 0
-IsListedFlatMap web next = (length next ≡ 2 * length web.ends) × IsFlatMap web (at next)
+IsListedFlatMap web next = (length next ≡ 2 * length web.ends) × IsFlat web (at next)
 
 -- the segments of an edge whose list this is
 abbrev pub through : Graph → List (ℕ × ℕ) → ℕ → List ℕ → List (ℕ × ℕ)

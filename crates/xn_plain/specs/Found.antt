@@ -1,6 +1,6 @@
 -- What the search for drawings looks for, and finds.
 use Rattle.std.specs.Prelude.{◌≡◌, ℕ, ◌+◌, ◌≤◌, ◌<◌, ◌==◌, ◌&&◌, Bool, true, false, not, Option, Some, None, List, ◌∷◌, ◌++◌, length}
-use Rattle.xn_model.specs.Drawing.{IsAtMost, IsCrossingNumber, IsListedDrawing, Least, order_of}
+use Rattle.xn_model.specs.Drawing.{IsAtMost, IsCrossingNumber, IsListedDrawing, IsAtLeast, order_of}
 use Rattle.xn_model.specs.Graph.{Graph, edges_of}
 use Rattle.xn_model.specs.Lists.{has, total}
 use Rattle.xn_model.specs.Map.{tail_of}
@@ -13,11 +13,11 @@ use Rattle.xn_plain.specs.declared.searches.Search.{Search}
 -- true where some drawing has at most k crossings, false where each has more
 abbrev pub SaysWithin : Graph → ℕ → Bool → Type 0
 SaysWithin g k true = IsAtMost g k
-SaysWithin g k false = Least g (k + 1)
+SaysWithin g k false = IsAtLeast g (k + 1)
 
 -- the crossing number, or none where it isn't below the bound
 abbrev pub FindsBelow : Graph → ℕ → Option ℕ → Type 0
-FindsBelow g bound None = Least g bound
+FindsBelow g bound None = IsAtLeast g bound
 FindsBelow g bound (Some k) = (k < bound) × IsCrossingNumber g k
 
 -- the lists are the orders of a drawing with at most k crossings

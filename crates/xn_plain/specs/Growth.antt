@@ -1,7 +1,7 @@
 -- What the search for flat insertions looks for.
 use Rattle.std.specs.Prelude.{ℕ, ◌+◌, ◌*◌, ◌^◌, ◌≤◌, List, ◌∷◌, length}
 use Rattle.xn_model.specs.Graph.{Graph}
-use Rattle.xn_model.specs.Insertion.{CutsFace, Extends, Follow, HangsAt, IsCorner, ReachesEnd, StandsAfter}
+use Rattle.xn_model.specs.Insertion.{CutsFace, Extends, Follow, HangsAt, IsOldCorner, ReachesEnd, StandsAfter}
 use Rattle.xn_model.specs.Lists.{at}
 use Rattle.xn_model.specs.Map.{face_step}
 use Rattle.xn_model.specs.Permutation.{Reaches}
@@ -37,7 +37,7 @@ CanInsert growth = CanExtend growth.web.now growth.done.now (growth.segment ∷ 
 
 -- the first dart can go to the corner after c
 abbrev pub IsFirstCorner : Growth → ℕ → Type 0
-IsFirstCorner growth c = IsCorner growth.web.now.ends growth.done.now (2 * growth.segment) c
+IsFirstCorner growth c = IsOldCorner growth.web.now.ends growth.done.now (2 * growth.segment) c
 
 -- insertions of the list lead to its end
 abbrev pub CanReachEnd : Graph → List ℕ → Type 0
@@ -54,7 +54,7 @@ CanCut growth = (after : ℕ → ℕ) × CutsFace growth.web.now.ends growth.don
 -- the first dart goes after c, the second to a corner of the same face, and then what follows
 pub record CanCutFrom (growth : Growth) (c : ℕ) : Type 0 where
   pub second : ℕ
-  pub is_second : IsCorner growth.web.now.ends growth.done.now (2 * growth.segment + 1) second
+  pub is_second : IsOldCorner growth.web.now.ends growth.done.now (2 * growth.segment + 1) second
   pub one_face : Reaches (face_step (at growth.next.now)) (at growth.next.now c) (at growth.next.now second)
   pub between : ℕ → ℕ
   pub after : ℕ → ℕ

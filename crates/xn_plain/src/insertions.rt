@@ -1,6 +1,6 @@
 // The parts of a flat insertion: corners, faces, and the rotation with one more dart.
 ghost use Rattle.std.specs.Prelude.{◌≡◌, ◌≢◌, ◌*◌, ◌<◌, ◌↔◌, IfOk, IsTrue, length};
-ghost use Rattle.xn_model.specs.Insertion.{IsCorner, is_old};
+ghost use Rattle.xn_model.specs.Insertion.{IsOldCorner, is_old};
 ghost use Rattle.xn_model.specs.Lists.{at};
 ghost use Rattle.xn_model.specs.Map.{face_step, tail_of};
 ghost use Rattle.xn_model.specs.Permutation.{Reaches};
@@ -37,7 +37,7 @@ pub fn is_old(web: &Web, done: &[u32], v: u32) -> bool
 pub fn is_corner(web: &Web, done: &[u32], d: u32, c: u32) -> bool
     requires d_in { d < 2 * length web.now.ends }
     requires c_in { c < 2 * length web.now.ends }
-    ensures { IsTrue result ↔ IsCorner web.now.ends done.now d c }
+    ensures { IsTrue result ↔ IsOldCorner web.now.ends done.now d c }
 {
     has(done, c / 2) && tail(web, c) == tail(web, d)
 }

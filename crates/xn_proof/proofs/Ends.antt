@@ -11,7 +11,7 @@ use Rattle.xn_proof.specs.declared.item.Item.TheVariants as item
 use Rattle.xn_proof.specs.declared.places.Block.{Block}
 use Rattle.xn_proof.specs.declared.places.Place.{Place}
 use Rattle.xn_proof.specs.declared.places.Place.TheVariants as place
-use Rattle.xn_proof.specs.Forms.{Line, State, alongs_from, edges_from, ends_with_end, is_end, is_end_item, lines_at, next_at, node_item, overs_from, paths_from, rows_from, rule_at, start_item, start_paths, turns_from, words_at}
+use Rattle.xn_proof.specs.Forms.{Line, Reached, alongs_from, edges_from, ends_with_end, is_end, is_end_item, lines_at, next_at, node_item, overs_from, paths_from, rows_from, rule_at, start_item, start_paths, turns_from, words_at}
 use Rattle.xn_proof.specs.Proofs.{node_of, start_of}
 use Rattle.xn_proof.specs.Ranges.{edge_form, effort_form, just_form, list_form, no_form, one_form, over_form, two_form}
 use Rattle.xn_proof.specs.Reading.{◌>>=◌, keyed_form, syntax, trailing}
@@ -82,13 +82,13 @@ rule_fits p i line x is = fits (is_end p) line.1 is
     fits false true h = words_fit p i (words_of line.0) x h
     fits false false h = absurd cc
 
-pub ends_so : (s t : State) (lines : List Line) (items : List Item) → lines_at s lines ≡ Ok (items, t) → is_end t.1 ≡ ends_with_end (is_end s.1) items
-ends_so s t [] items is = subst (λ (p : List Item × State). is_end p.1.1 ≡ ends_with_end (is_end s.1) p.0) (ok_is ([], s) (items, t) is) refl
+pub ends_so : (s t : Reached) (lines : List Line) (items : List Item) → lines_at s lines ≡ Ok (items, t) → is_end t.1 ≡ ends_with_end (is_end s.1) items
+ends_so s t [] items is = subst (λ (p : List Item × Reached). is_end p.1.1 ≡ ends_with_end (is_end s.1) p.0) (ok_is ([], s) (items, t) is) refl
 ends_so s t (l ∷ lines) items is =
     let a = bind_ok (next_at s l) (λ first. lines_at first.1 lines >>= λ others. Ok (first.0 ∷ others.0, others.1)) (items, t) is in
     let b = bind_ok (lines_at a.0.1 lines) (λ others. Ok (a.0.0 ∷ others.0, others.1)) (items, t) a.2 in
     let r = bind_ok (rule_at s.1 s.0 l) (λ x. Ok (x.0, (_, x.1))) a.0 a.1 in
-    let fit : is_end a.0.1.1 ≡ is_end_item a.0.0 = subst (λ (z : Item × State). is_end z.1.1 ≡ is_end_item z.0) (ok_is (r.0.0, (_, r.0.1)) a.0 r.2) (rule_fits s.1 s.0 l r.0 r.1) in
+    let fit : is_end a.0.1.1 ≡ is_end_item a.0.0 = subst (λ (z : Item × Reached). is_end z.1.1 ≡ is_end_item z.0) (ok_is (r.0.0, (_, r.0.1)) a.0 r.2) (rule_fits s.1 s.0 l r.0 r.1) in
     let others : is_end b.0.1.1 ≡ ends_with_end (is_end a.0.1.1) b.0.0 = ends_so a.0.1 b.0.1 lines b.0.0 b.1 in
-    subst (λ (p : List Item × State). is_end p.1.1 ≡ ends_with_end (is_end s.1) p.0) (ok_is (a.0.0 ∷ b.0.0, b.0.1) (items, t) b.2)
+    subst (λ (p : List Item × Reached). is_end p.1.1 ≡ ends_with_end (is_end s.1) p.0) (ok_is (a.0.0 ∷ b.0.0, b.0.1) (items, t) b.2)
     (others ∙ ap (λ (e : Bool). ends_with_end e b.0.0) fit)

@@ -10,7 +10,7 @@ use Rattle.xn_kinds.specs.declared.flaws.Flaw.{Flaw}
 use Rattle.xn_text.specs.Pieces.{is_line_end, lines_of, numbered_lines, unended_line, words_of}
 use Rattle.xn_proof.specs.declared.item.Item.{Item}
 use Rattle.xn_proof.specs.declared.places.Place.{Place}
-use Rattle.xn_proof.specs.Forms.{State, is_end, lines_at, rule_at, up_to_end, words_at}
+use Rattle.xn_proof.specs.Forms.{Reached, is_end, lines_at, rule_at, up_to_end, words_at}
 use Rattle.xn_proof.specs.Reading.{◌>>=◌, Left, form_at, keyed, keyed_form, line_at, many_at, numbers_at, syntax}
 use Rattle.xn_proof.proofs.Steps.{bind_ok, ok_is}
 
@@ -192,18 +192,18 @@ many_lines_say item say on at step j t k front s =
 -- ---- the number of the next line stays at 2^64 - 1, which no text of fewer lines comes to
 
 -- an item in front of others
-abbrev pub then_items : Item → List Item × State → Result (List Item × State) Flaw
+abbrev pub then_items : Item → List Item × Reached → Result (List Item × Reached) Flaw
 then_items x o = Ok (x ∷ o.0, o.1)
 
-kept_by : (x : Item) (o : List Item × State) (b : Bool) → cond b (Ok (x ∷ o.0)) (Err (syntax o.1.0)) ≡ (cond b (Ok o.0) (Err (syntax o.1.0)) >>= λ items. Ok (x ∷ items))
+kept_by : (x : Item) (o : List Item × Reached) (b : Bool) → cond b (Ok (x ∷ o.0)) (Err (syntax o.1.0)) ≡ (cond b (Ok o.0) (Err (syntax o.1.0)) >>= λ items. Ok (x ∷ items))
 kept_by x o true = refl
 kept_by x o false = refl
 
-kept : (x : Item) (read : Result (List Item × State) Flaw) → up_to_end (read >>= then_items x) ≡ (up_to_end read >>= λ items. Ok (x ∷ items))
+kept : (x : Item) (read : Result (List Item × Reached) Flaw) → up_to_end (read >>= then_items x) ≡ (up_to_end read >>= λ items. Ok (x ∷ items))
 kept x (Ok o) = kept_by x o (is_end o.1.1)
 kept x (Err e) = refl
 
-abbrev pub counted_on : ℕ → Item × Place → Result (Item × State) Flaw
+abbrev pub counted_on : ℕ → Item × Place → Result (Item × Reached) Flaw
 counted_on n x = Ok (x.0, (n, x.1))
 
 agree : (i : ℕ) (lines : List (ℕ × List ℕ × Bool)) → min (i + 1) (2 ^ 64 - 1) ≡ i + 1 →

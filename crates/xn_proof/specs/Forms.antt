@@ -118,18 +118,18 @@ rule_at p i line = if is_end p then Err (trailing i) else if line.1 then words_a
 -- ---- lines so far
 
 -- the number of the next line, which stays at 2^64 - 1, and its place
-abbrev pub State : Type 0
-State = ℕ × Place
+abbrev pub Reached : Type 0
+Reached = ℕ × Place
 
-abbrev pub start_state : State
+abbrev pub start_state : Reached
 start_state = (1, place.Header)
 
 -- what the next line says, and the state after it
-abbrev pub next_at : State → Line → Result (Item × State) Flaw
+abbrev pub next_at : Reached → Line → Result (Item × Reached) Flaw
 next_at s line = rule_at s.1 s.0 line >>= λ x. Ok (x.0, (min (s.0 + 1) (2 ^ 64 - 1), x.1))
 
 -- what lines say one after the other, and the state after them
-abbrev pub lines_at : State → List Line → Result (List Item × State) Flaw
+abbrev pub lines_at : Reached → List Line → Result (List Item × Reached) Flaw
 lines_at s [] = Ok ([], s)
 lines_at s (line ∷ lines) = do
   first ← next_at s line
@@ -137,7 +137,7 @@ lines_at s (line ∷ lines) = do
   Ok (first.0 ∷ others.0, others.1)
 
 -- a state stands for lines, each of which keeps its rule after those before it, and for what they say
-abbrev pub StandsFor : State → List Line → List Item → Type 0
+abbrev pub StandsFor : Reached → List Line → List Item → Type 0
 StandsFor s lines items = lines_at start_state lines ≡ Ok (items, s)
 
 -- the last of the items is the end of an answer; of no items it is as said
@@ -150,7 +150,7 @@ ends_with_end before [] = before
 ends_with_end before (x ∷ items) = ends_with_end (is_end_item x) items
 
 -- a line was taken, or it was refused and the state is as before
-abbrev pub Takes : Result Item AnswerErr → State → State → Result (Item × State) Flaw → Type 0
+abbrev pub Takes : Result Item AnswerErr → Reached → Reached → Result (Item × Reached) Flaw → Type 0
 Takes (Ok x) old new next = next ≡ Ok (x, new)
 Takes (Err e) old new next = Fails e next × (new ≡ old)
 
@@ -208,7 +208,7 @@ abbrev pub text_lines : List ℕ → List Line
 text_lines text = map (λ l. (l.1, l.2)) (lines_of (1, text))
 
 -- what lines say where they come to the end, and the flaw of a missing line else
-abbrev pub up_to_end : Result (List Item × State) Flaw → Result (List Item) Flaw
+abbrev pub up_to_end : Result (List Item × Reached) Flaw → Result (List Item) Flaw
 up_to_end read = read >>= λ x. if is_end x.1.1 then Ok x.0 else Err (syntax x.1.0)
 
 -- the lines of a text, taken one by one, say what the text says as an answer, or have the same first flaw

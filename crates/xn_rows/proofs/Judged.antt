@@ -4,7 +4,7 @@ use Rattle.std.specs.Prelude.{All, nat_eq, slice_index}
 use Rattle.std.specs.List.{AllByRecursion, IsDistinct, concat}
 use Rattle.std.proofs.lemmas.Bool.{both_ways, cases_Bool, cases_eq, cases_lt, false_from_ne_true, ltb-true}
 use Rattle.std.proofs.lemmas.List.{append-nil, get_or_default}
-use Rattle.xn_model.specs.Evidence.{IsSubdivision, LeadsTo, all_inner, far_end}
+use Rattle.xn_model.specs.Evidence.{IsPathSystem, LeadsTo, all_inner, far_end}
 use Rattle.xn_model.specs.Graph.{Graph, ends_at, touches}
 use Rattle.xn_model.specs.Insertion.{GrowsFromFirst}
 use Rattle.xn_model.specs.Lists.{at, has}
@@ -13,7 +13,7 @@ use Rattle.xn_kinds.specs.declared.flaws.EvidenceFlaw.TheVariants.{Branch, Broke
 use Rattle.xn_draw.proofs.Decided.{Decided, first_so}
 use Rattle.xn_extend.specs.ListFlaw.{IsListFlaw, IsMisfit, share_node}
 use Rattle.xn_extend.proofs.Listing.{grows_from_fit}
-use Rattle.xn_kura.specs.Flaws.{AreBranches, IsBroken, IsFirstFlaw, IsFirstRepeat, LeadBefore, begins_at, goes_to, path_at, wrong_branch}
+use Rattle.xn_kura.specs.Flaws.{AreBranches, IsBroken, IsFirstEvidenceFlaw, IsFirstRepeat, LeadBefore, begins_at, goes_to, path_at, wrong_branch}
 use Rattle.xn_kura.proofs.Stages.{lead_all}
 
 decide_true : (b : Bool) → Decided (b ≡ true)
@@ -89,7 +89,7 @@ branches_below nodes branch are i d low =
 module _ (web : Graph) (pairs : List (ℕ × ℕ)) (branch : List ℕ) (paths : List (List ℕ)) (fits : length paths ≡ length pairs) where
   -- the paths are a subdivision, or have a first flaw
   abbrev Ended : Type 0
-  Ended = IsSubdivision web pairs branch paths ⊎ ((x : EvidenceFlaw) × IsFirstFlaw web pairs branch paths x)
+  Ended = IsPathSystem web pairs branch paths ⊎ ((x : EvidenceFlaw) × IsFirstEvidenceFlaw web pairs branch paths x)
 
   abbrev Leads : ℕ → Type 0
   Leads q = LeadsTo web.ends (begins_at pairs branch q) (path_at paths q) (goes_to pairs branch q)

@@ -20,7 +20,7 @@ use Rattle.xn_map.specs.Rotation.{IsFirst}
 use Rattle.xn_draw.specs.Entries.{IsDependent, NamesFirst, NoEntry}
 use Rattle.xn_draw.specs.Pairs.{has_pair}
 use Rattle.xn_extend.specs.ListFlaw.{IsListFlaw}
-use Rattle.xn_kura.specs.Flaws.{IsFirstFlaw}
+use Rattle.xn_kura.specs.Flaws.{IsFirstEvidenceFlaw}
 use Rattle.xn_rows.specs.declared.causes.RowErr.{RowErr}
 use Rattle.xn_rows.specs.declared.causes.RowErr.TheVariants.{Flaw, Memory}
 
@@ -90,8 +90,8 @@ IsInsertionFlaw ends list (Inner v) = ⊥
 
 -- the first flaw of the evidence itself
 abbrev pub IsEvidenceFlaw : Graph → Evidence → EvidenceFlaw → Type 0
-IsEvidenceFlaw web (Five branch paths) flaw = IsFirstFlaw web five_pairs branch paths flaw
-IsEvidenceFlaw web (ThreeThree branch paths) flaw = IsFirstFlaw web three_pairs branch paths flaw
+IsEvidenceFlaw web (Five branch paths) flaw = IsFirstEvidenceFlaw web five_pairs branch paths flaw
+IsEvidenceFlaw web (ThreeThree branch paths) flaw = IsFirstEvidenceFlaw web three_pairs branch paths flaw
 IsEvidenceFlaw web (Extension list) flaw = IsInsertionFlaw web.ends list flaw
 
 -- flat insertions reach the end of the list of an extension

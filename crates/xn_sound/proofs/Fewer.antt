@@ -5,7 +5,7 @@ use Rattle.std.specs.Prelude.{filter}
 use Rattle.std.proofs.lemmas.Bool.{cases_lt, lt-ltb, le-ltb, cond-true, cond-false}
 use Rattle.xn_model.specs.Graph.{EndsIn, Graph, IsGraph, ends_at}
 use Rattle.xn_model.specs.Lists.{has}
-use Rattle.xn_model.specs.Map.{IsFlatMap}
+use Rattle.xn_model.specs.Map.{IsFlat}
 use Rattle.xn_model.specs.Orders.{IsOrders, crossings_of}
 use Rattle.xn_model.specs.Web.{crossing_node, segments_of, segments_through, web_of}
 use Rattle.xn_genus.proofs.Kept.{EndsIn_at}
@@ -53,7 +53,7 @@ ends-flat_map n f [] each = tt
 ends-flat_map n f (e ∷ es) each = ends-append n (f e) (flat_map f es) (each e (has-first e es)) (ends-flat_map n f es (λ x x_in. each x (has-later e es x x_in)))
 
 module _ (g : Graph) (is_graph : IsGraph g) (edges small : List ℕ) (ord less : ℕ → List ℕ) (all : IsOrders g.ends edges ord) (some : IsOrders g.ends small less)
-    (part : IsRestriction edges small ord less) (next : ℕ → ℕ) (flat : IsFlatMap (web_of g edges ord) next) where
+    (part : IsRestriction edges small ord less) (next : ℕ → ℕ) (flat : IsFlat (web_of g edges ord) next) where
   rising : Rising edges
   rising = rising-from_increasing edges all.edge_list.rise
 

@@ -9,7 +9,7 @@ use Rattle.xn_model.specs.Lists.{has}
 use Rattle.xn_model.specs.Orders.{crossing_count}
 use Rattle.xn_kinds.specs.Laws.{ValuesAreInTheBox}
 use Rattle.xn_kinds.specs.State.{State, LiesIn, decide, empty_state, place}
-use Rattle.xn_kinds.specs.Tree.{Finishes, Keeps, children}
+use Rattle.xn_kinds.specs.Tree.{AreTrees, Keeps, children}
 use Rattle.xn_kinds.specs.declared.rows.Row.{Row}
 use Rattle.xn_kinds.specs.declared.trees.Node.{Node}
 use Rattle.xn_kinds.specs.declared.trees.Node.TheVariants.{Pair, Place, Leaf}
@@ -106,7 +106,7 @@ module _ (boxed : ValuesAreInTheBox) (g : Graph) (k : ℕ) (rows : List Row) (me
       inl (any_from_one ord (children s (Place e f)) child.0 child.1 child.2)
   node_shows s (Leaf d parts) keeps lies = inr (leaves_have_crossings boxed g k rows s d parts met keeps ord next drawing lies)
 
-  nodes_show : (nodes : List Node) (pending : List State) → Finishes (Keeps g k rows) children pending nodes → AnyLies ord pending → k ≤ crossing_count g ord
+  nodes_show : (nodes : List Node) (pending : List State) → AreTrees (Keeps g k rows) children pending nodes → AnyLies ord pending → k ≤ crossing_count g ord
   unfolding AnyLies
   nodes_show [] [] tree lies = absurd lies
   nodes_show [] (s ∷ pending) tree lies = absurd tree

@@ -1,10 +1,10 @@
 -- What rows and proof trees show of every drawing.
 use Rattle.std.specs.Prelude.{◌≡◌, ℕ, ◌<◌, ◌≤◌, true, List, length, filter, slice_index_or, All}
-use Rattle.xn_model.specs.Drawing.{IsDrawing, Least}
+use Rattle.xn_model.specs.Drawing.{IsDrawing, IsAtLeast}
 use Rattle.xn_model.specs.Examples.{k5}
 use Rattle.xn_model.specs.Graph.{Graph, IsGraph, edges_of}
 use Rattle.xn_model.specs.Lists.{has}
-use Rattle.xn_model.specs.Map.{IsFlatMap}
+use Rattle.xn_model.specs.Map.{IsFlat}
 use Rattle.xn_model.specs.Orders.{IsOrders, crossing_count}
 use Rattle.xn_model.specs.Web.{web_of}
 use Rattle.xn_kinds.specs.Examples.{k5_and_two}
@@ -27,7 +27,7 @@ pub record IsRestriction (edges small : List ℕ) (ord less : ℕ → List ℕ) 
 abbrev pub FewerEdgesStayFlat : Type 0
 FewerEdgesStayFlat =
     (g : Graph) (edges small : List ℕ) (ord less : ℕ → List ℕ) (next : ℕ → ℕ) → IsGraph g → IsOrders g.ends edges ord → IsOrders g.ends small less →
-    IsRestriction edges small ord less → IsFlatMap (web_of g edges ord) next → (after : ℕ → ℕ) × IsFlatMap (web_of g small less) after
+    IsRestriction edges small ord less → IsFlat (web_of g edges ord) next → (after : ℕ → ℕ) × IsFlat (web_of g small less) after
 
 -- where a row's value in orders of the graph is 0, its own orders are those on its edges
 abbrev pub ZeroMeansTheRowsOrders : Type 0
@@ -39,7 +39,7 @@ ZeroMeansTheRowsOrders =
 
 -- a web for which an evidence of any kind holds has no flat map
 abbrev pub EvidenceExcludesFlatMaps : Type 0
-EvidenceExcludesFlatMaps = (web : Graph) (evidence : Evidence) → EvidenceHolds web evidence → (next : ℕ → ℕ) → ¬ IsFlatMap web next
+EvidenceExcludesFlatMaps = (web : Graph) (evidence : Evidence) → EvidenceHolds web evidence → (next : ℕ → ℕ) → ¬ IsFlat web next
 
 -- in every drawing the value of the row is at least 1
 abbrev pub IsMet : Graph → Row → Type 0
@@ -83,9 +83,9 @@ TreesProve =
 
 -- a proof that is accepted shows that every drawing has k crossings
 abbrev pub AcceptedProofsBound : Type 0
-AcceptedProofsBound = (g : Graph) (k : ℕ) (rows : List Row) (nodes : List Node) → IsGraph g → Accepts g k rows nodes → Least g k
+AcceptedProofsBound = (g : Graph) (k : ℕ) (rows : List Row) (nodes : List Node) → IsGraph g → Accepts g k rows nodes → IsAtLeast g k
 
 -- so one row shows that K5 has a crossing, and a tree that branches shows it of K5 with two edges apart from it
 pub record ExamplesAreBounded : Type 0 where
-  pub k5_crosses : Least k5 1
-  pub far_edges : Least k5_and_two 1
+  pub k5_crosses : IsAtLeast k5 1
+  pub far_edges : IsAtLeast k5_and_two 1

@@ -2,7 +2,7 @@
 use Rattle.std.proofs.Common.{◌≡◌, ◌≢◌, ℕ, suc, ◌+◌, ◌*◌, ◌<◌, ◌⊎◌, inl, inr, true, false, not, ◌&&◌, eqb, List, [], ◌∷◌, ◌++◌, length, refl, sym, ◌∙◌, ap, subst, arith}
 use Rattle.std.proofs.lemmas.Bool.{false_from_ne_true}
 use Rattle.xn_model.specs.Lists.{one_if}
-use Rattle.xn_model.specs.Map.{IsFlat, IsMap, Joined, face_count, face_step, is_lone, reverse_of, tail_of}
+use Rattle.xn_model.specs.Map.{MeetsEuler, IsMap, Joined, face_count, face_step, is_lone, reverse_of, tail_of}
 use Rattle.xn_model.specs.Permutation.{IsSplice, Permutes, Reaches, count_below, cycle_count}
 use Rattle.xn_surgery.specs.Corners.{Corner, after, lone, InOneFace, node_of, stand_at}
 use Rattle.xn_surgery.specs.Insertion.{IsInsertion}
@@ -171,7 +171,7 @@ insertion_joins nodes ends more (after d) (lone v) next turn map comes apart =
     (λ there. lone_apart ends v (tail_of ends d) comes.second.1 (λ same. comes.two_nodes (sym same)) (joined_sym ends (tail_of ends d) v there))
 
 pub insertion_flat : (nodes : ℕ) (ends more : List (ℕ × ℕ)) (a b : Corner) (next turn : ℕ → ℕ) → IsMap nodes ends next → IsInsertion nodes ends next a b more turn →
-    (InOneFace next a b ⊎ (Joined ends (node_of ends a) (node_of ends b) → ⊥)) → IsFlat nodes ends next → IsFlat nodes more turn
+    (InOneFace next a b ⊎ (Joined ends (node_of ends a) (node_of ends b) → ⊥)) → MeetsEuler nodes ends next → MeetsEuler nodes more turn
 insertion_flat nodes ends more a b next turn map comes (inl same) flat =
     let split = insertion_splits nodes ends more a b next turn map comes same in
     let components = components_stay nodes ends more a b next turn map comes split.1 in
@@ -182,6 +182,6 @@ insertion_flat nodes ends more a b next turn map comes (inr apart) flat =
     omega (arith, flat, faces, components, size nodes ends more a b next turn map comes)
 
 pub insertion_not_flat : (nodes : ℕ) (ends more : List (ℕ × ℕ)) (a b : Corner) (next turn : ℕ → ℕ) → IsMap nodes ends next → IsInsertion nodes ends next a b more turn →
-    (InOneFace next a b → ⊥) → Joined ends (node_of ends a) (node_of ends b) → IsFlat nodes ends next → IsFlat nodes more turn → ⊥
+    (InOneFace next a b → ⊥) → Joined ends (node_of ends a) (node_of ends b) → MeetsEuler nodes ends next → MeetsEuler nodes more turn → ⊥
 insertion_not_flat nodes ends more a b next turn map comes apart there flat now =
     omega (arith, flat, now, insertion_joins nodes ends more a b next turn map comes apart, components_stay nodes ends more a b next turn map comes there, size nodes ends more a b next turn map comes)

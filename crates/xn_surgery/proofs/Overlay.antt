@@ -5,7 +5,7 @@ use Rattle.std.proofs.lemmas.Bool.{and_from, both_ways, cases_eq, cases_lt, fals
 use Rattle.std.proofs.lemmas.List.Folds.{list_any-append}
 use Rattle.xn_model.specs.Graph.{EndsIn, ends_at, touches}
 use Rattle.xn_model.specs.Lists.{one_if}
-use Rattle.xn_model.specs.Map.{IsFlat, IsMap, component_count, face_count, face_step, is_lone, reverse_of, tail_of}
+use Rattle.xn_model.specs.Map.{MeetsEuler, IsMap, component_count, face_count, face_step, is_lone, reverse_of, tail_of}
 use Rattle.xn_model.specs.Permutation.{IsSplice, Permutes, Reaches, count_below, cycle_count}
 use Rattle.xn_ring.specs.Parts.{HasCyclesOfBoth, IsBeside}
 use Rattle.xn_surgery.specs.Overlay.{IsOverlay, ShareNothing, ShareOnly}
@@ -295,6 +295,6 @@ overlay_components nodes first second f g after one two (inr is) =
     components nodes first second f g at.beside one two at.two_maps (tail_of first is.0) at.share
 
 pub overlay_flat : (nodes : ℕ) (first second : List (ℕ × ℕ)) (f g after : ℕ → ℕ) → IsMap nodes first f → IsMap nodes second g →
-    IsOverlay nodes first second f g after → IsFlat nodes first f → IsFlat nodes second g → IsFlat nodes (first ++ second) after
+    IsOverlay nodes first second f g after → MeetsEuler nodes first f → MeetsEuler nodes second g → MeetsEuler nodes (first ++ second) after
 overlay_flat nodes first second f g after one two is flat_one flat_two =
     omega (arith, flat_one, flat_two, overlay_faces nodes first second f g after one two is, overlay_components nodes first second f g after one two is, length-append first second)

@@ -1,6 +1,6 @@
 -- A crossing is resolved: a split and two smoothings.
 use Rattle.std.proofs.Common.{ℕ, suc, List}
-use Rattle.xn_model.specs.Map.{IsFlat, IsMap}
+use Rattle.xn_model.specs.Map.{MeetsEuler, IsMap}
 use Rattle.xn_surgery.specs.Resolution.{IsResolution}
 use Rattle.xn_surgery.proofs.Smooth.{map_smoothed, smoothing_flat}
 use Rattle.xn_surgery.proofs.Split.{flat_split, map_split}
@@ -15,7 +15,7 @@ module _ (rest a b : ℕ) (ends left : List (ℕ × ℕ)) (next after : ℕ → 
   pub map_resolved : IsMap rest left after
   map_resolved = map_smoothed rest is.old_first is.old_second is.once left is.once_next after once is.old_goes
 
-  pub resolution_flat : IsFlat (suc rest) ends next → IsFlat rest left after
+  pub resolution_flat : MeetsEuler (suc rest) ends next → MeetsEuler rest left after
   resolution_flat flat =
       (smoothing_flat rest is.old_first is.old_second is.once left is.once_next after once is.old_goes).0
       ((smoothing_flat (suc rest) is.new_first is.new_second is.split is.once is.split_next is.once_next split is.new_goes).0

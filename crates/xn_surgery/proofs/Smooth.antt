@@ -1,7 +1,7 @@
 -- A node with two darts goes: its two segments are a chain.
 use Rattle.std.proofs.Common.{◌≡◌, ◌≢◌, ◌↔◌, ℕ, zero, suc, ◌+◌, ◌*◌, ◌/◌, ◌%◌, ◌<◌, ◌≤◌, ◌⊎◌, inl, inr, cond, eqb, List, length, refl, sym, ◌∙◌, ap, arith}
 use Rattle.std.proofs.lemmas.Bool.{cases_eq, cond-true, cond-false, eq-eqb, ne_eqb}
-use Rattle.xn_model.specs.Map.{IsFlat, IsMap, component_count, face_count, face_step, reverse_of, tail_of}
+use Rattle.xn_model.specs.Map.{MeetsEuler, IsMap, component_count, face_count, face_step, reverse_of, tail_of}
 use Rattle.xn_surgery.specs.Contraction.{IsContraction, along_chain}
 use Rattle.xn_genus.specs.Deletion.{dart_before}
 use Rattle.xn_surgery.specs.Smoothing.{IsSmoothing, dart_smoothed, node_before}
@@ -306,7 +306,7 @@ module _ (rest p q : ℕ) (ends left : List (ℕ × ℕ)) (next after : ℕ → 
   pub components_smoothed : component_count rest left ≡ component_count (suc rest) ends
   components_smoothed = components_left (suc rest) rest ends left next after start steps node map is_contraction
 
-  pub smoothing_flat : IsFlat (suc rest) ends next ↔ IsFlat rest left after
+  pub smoothing_flat : MeetsEuler (suc rest) ends next ↔ MeetsEuler rest left after
   smoothing_flat = (
     λ flat. omega (arith, flat, faces_smoothed, components_smoothed, is.fewer),
     λ flat. omega (arith, flat, faces_smoothed, components_smoothed, is.fewer),

@@ -3,7 +3,7 @@ use Rattle.std.proofs.Common.{◌≡◌, ◌≢◌, ℕ, zero, suc, ◌+◌, ◌
 use Rattle.std.proofs.lemmas.Bool.{cases_eq, cases_lt, cond-true, cond-false, eq-eqb, eqb-true, eqb-false, ne_eqb, false_from_ne_true}
 use Rattle.xn_model.specs.Graph.{EndsIn}
 use Rattle.xn_model.specs.Lists.{one_if}
-use Rattle.xn_model.specs.Map.{IsFlat, IsMap, Joined, component_count, face_count, face_step, is_lone, reverse_of, tail_of}
+use Rattle.xn_model.specs.Map.{MeetsEuler, IsMap, Joined, component_count, face_count, face_step, is_lone, reverse_of, tail_of}
 use Rattle.xn_model.specs.Permutation.{IsSplice, Permutes, Reaches, count_below, cycle_count, iterate}
 use Rattle.xn_ring.specs.Swaps.{CutsRing}
 use Rattle.xn_surgery.specs.Splitting.{InArc, IsSplit}
@@ -265,7 +265,7 @@ module _ (nodes a b : ℕ) (ends split : List (ℕ × ℕ)) (next after : ℕ �
       let more = component_count-split_apart nodes v ends split map.ends_in split_in both_in v_in is.all tail_low moves apart in
       omega (arith, more)
 
-  pub flat_split : IsFlat nodes ends next → IsFlat (suc nodes) split after
+  pub flat_split : MeetsEuler nodes ends next → MeetsEuler (suc nodes) split after
   flat_split flat =
       let genus = split_genus nodes v c e ends split next after map.ends_in split_in both_in v_in is.all tail_low moves map.permutes to_a.1 to_b.1 c_not_e splice
       (λ d d_in. stays d (old_in d d_in)) (is.stayed c to_a.1 (λ arc. c_away (arc_to c arc)) ∙ tail_c) (is.moved e to_b.1 (arc_from e e_there)) in

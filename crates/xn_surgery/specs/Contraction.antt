@@ -1,7 +1,7 @@
 -- Chains of segments become one segment each.
 use Rattle.std.specs.Prelude.{◌≡◌, ◌≢◌, ◌↔◌, ℕ, suc, ◌+◌, ◌*◌, ◌<◌, ◌≤◌, true, List, length}
 use Rattle.xn_model.specs.Graph.{EndsIn}
-use Rattle.xn_model.specs.Map.{IsFlat, IsMap, component_count, face_count, face_step, is_lone, reverse_of, tail_of}
+use Rattle.xn_model.specs.Map.{MeetsEuler, IsMap, component_count, face_count, face_step, is_lone, reverse_of, tail_of}
 use Rattle.xn_model.specs.Permutation.{iterate}
 
 -- the dart i steps on along the face from where the chain of dart j starts
@@ -43,4 +43,4 @@ ContractionKeepsCounts =
 abbrev pub ContractionKeepsFlat : Type 0
 ContractionKeepsFlat =
     (nodes left_nodes : ℕ) (ends left : List (ℕ × ℕ)) (next after start steps node : ℕ → ℕ) → IsMap nodes ends next →
-    IsContraction nodes ends next left_nodes left after start steps node → IsFlat nodes ends next ↔ IsFlat left_nodes left after
+    IsContraction nodes ends next left_nodes left after start steps node → MeetsEuler nodes ends next ↔ MeetsEuler left_nodes left after

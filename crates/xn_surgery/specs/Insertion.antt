@@ -1,6 +1,6 @@
 -- A segment comes into a map, from a corner to a corner.
 use Rattle.std.specs.Prelude.{◌≡◌, ◌≢◌, ℕ, suc, ◌+◌, ◌*◌, ◌<◌, ◌⊎◌, List, [], ◌∷◌, ◌++◌, length}
-use Rattle.xn_model.specs.Map.{IsFlat, IsMap, Joined, component_count, face_count}
+use Rattle.xn_model.specs.Map.{MeetsEuler, IsMap, Joined, component_count, face_count}
 use Rattle.xn_surgery.specs.Corners.{Corner, InOneFace, IsCornerOf, node_of, stand_at}
 
 -- the last segment goes from the node of a to another, that of b, and its darts stand in these corners
@@ -44,10 +44,10 @@ InsertionJoinsComponents =
 abbrev pub InsertionKeepsFlat : Type 0
 InsertionKeepsFlat =
     (nodes : ℕ) (ends more : List (ℕ × ℕ)) (a b : Corner) (next after : ℕ → ℕ) → IsMap nodes ends next → IsInsertion nodes ends next a b more after →
-    (InOneFace next a b ⊎ (Joined ends (node_of ends a) (node_of ends b) → ⊥)) → IsFlat nodes ends next → IsFlat nodes more after
+    (InOneFace next a b ⊎ (Joined ends (node_of ends a) (node_of ends b) → ⊥)) → MeetsEuler nodes ends next → MeetsEuler nodes more after
 
 -- and nowhere else
 abbrev pub OtherInsertionsAreNotFlat : Type 0
 OtherInsertionsAreNotFlat =
     (nodes : ℕ) (ends more : List (ℕ × ℕ)) (a b : Corner) (next after : ℕ → ℕ) → IsMap nodes ends next → IsInsertion nodes ends next a b more after →
-    (InOneFace next a b → ⊥) → Joined ends (node_of ends a) (node_of ends b) → IsFlat nodes ends next → IsFlat nodes more after → ⊥
+    (InOneFace next a b → ⊥) → Joined ends (node_of ends a) (node_of ends b) → MeetsEuler nodes ends next → MeetsEuler nodes more after → ⊥

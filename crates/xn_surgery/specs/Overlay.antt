@@ -1,6 +1,6 @@
 -- Two maps of the same nodes, laid over each other.
 use Rattle.std.specs.Prelude.{◌≡◌, ◌≢◌, ℕ, ◌+◌, ◌*◌, ◌<◌, ◌⊎◌, true, List, ◌++◌, length}
-use Rattle.xn_model.specs.Map.{IsFlat, IsMap, component_count, face_count, is_lone, tail_of}
+use Rattle.xn_model.specs.Map.{MeetsEuler, IsMap, component_count, face_count, is_lone, tail_of}
 use Rattle.xn_model.specs.Permutation.{IsSplice}
 use Rattle.xn_ring.specs.Parts.{IsBeside}
 
@@ -48,4 +48,4 @@ OverlayAddsCounts =
 abbrev pub OverlayKeepsFlat : Type 0
 OverlayKeepsFlat =
     (nodes : ℕ) (first second : List (ℕ × ℕ)) (f g after : ℕ → ℕ) → IsMap nodes first f → IsMap nodes second g →
-    IsOverlay nodes first second f g after → IsFlat nodes first f → IsFlat nodes second g → IsFlat nodes (first ++ second) after
+    IsOverlay nodes first second f g after → MeetsEuler nodes first f → MeetsEuler nodes second g → MeetsEuler nodes (first ++ second) after

@@ -1,6 +1,6 @@
 -- A crossing is resolved: its node is split into two, and both are smoothed.
 use Rattle.std.specs.Prelude.{◌≡◌, ℕ, suc, List}
-use Rattle.xn_model.specs.Map.{IsFlat, IsMap, tail_of}
+use Rattle.xn_model.specs.Map.{MeetsEuler, IsMap, tail_of}
 use Rattle.xn_surgery.specs.Smoothing.{IsSmoothing}
 use Rattle.xn_surgery.specs.Splitting.{IsSplit}
 
@@ -28,4 +28,4 @@ ResolutionLeavesAMap =
 abbrev pub ResolutionKeepsFlat : Type 0
 ResolutionKeepsFlat =
     (rest a b : ℕ) (ends left : List (ℕ × ℕ)) (next after : ℕ → ℕ) → IsMap (suc rest) ends next → IsResolution rest ends next a b left after →
-    IsFlat (suc rest) ends next → IsFlat rest left after
+    MeetsEuler (suc rest) ends next → MeetsEuler rest left after

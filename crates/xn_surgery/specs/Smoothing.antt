@@ -1,6 +1,6 @@
 -- A node with two darts goes, and its two segments become one.
 use Rattle.std.specs.Prelude.{◌≡◌, ◌↔◌, ℕ, suc, ◌*◌, ◌/◌, ◌<◌, ◌==◌, List, length, if◌then◌else◌}
-use Rattle.xn_model.specs.Map.{IsFlat, IsMap, component_count, face_count, reverse_of, tail_of}
+use Rattle.xn_model.specs.Map.{MeetsEuler, IsMap, component_count, face_count, reverse_of, tail_of}
 use Rattle.xn_genus.specs.Deletion.{dart_before}
 
 -- the dart in whose place dart j stands: the last segment has the number of q's, and p has gone to the far end of q
@@ -40,4 +40,4 @@ SmoothingKeepsCounts =
 abbrev pub SmoothingKeepsFlat : Type 0
 SmoothingKeepsFlat =
     (rest p q : ℕ) (ends left : List (ℕ × ℕ)) (next after : ℕ → ℕ) → IsMap (suc rest) ends next → IsSmoothing rest ends next p q left after →
-    IsFlat (suc rest) ends next ↔ IsFlat rest left after
+    MeetsEuler (suc rest) ends next ↔ MeetsEuler rest left after

@@ -1,6 +1,6 @@
 -- A node is split: some darts that follow each other go to a new node.
 use Rattle.std.specs.Prelude.{◌≡◌, ◌≢◌, ℕ, suc, ◌+◌, ◌*◌, ◌<◌, ◌≤◌, ◌==◌, List, length, if◌then◌else◌}
-use Rattle.xn_model.specs.Map.{IsFlat, IsMap, Joined, component_count, face_count, face_step, tail_of}
+use Rattle.xn_model.specs.Map.{MeetsEuler, IsMap, Joined, component_count, face_count, face_step, tail_of}
 use Rattle.xn_model.specs.Permutation.{Reaches, iterate}
 
 -- d is one of a, next a and so on, up to the dart before b
@@ -50,4 +50,4 @@ SplitSplitsAComponent =
 abbrev pub SplitKeepsFlat : Type 0
 SplitKeepsFlat =
     (nodes a b : ℕ) (ends split : List (ℕ × ℕ)) (next after : ℕ → ℕ) → IsMap nodes ends next → IsSplit nodes ends next a b split after →
-    IsFlat nodes ends next → IsFlat (suc nodes) split after
+    MeetsEuler nodes ends next → MeetsEuler (suc nodes) split after

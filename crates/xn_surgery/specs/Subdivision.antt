@@ -1,7 +1,7 @@
 -- A new node on a segment.
 use Rattle.std.specs.Prelude.{◌≡◌, ◌≢◌, ◌↔◌, ℕ, suc, ◌+◌, ◌*◌, ◌<◌, ◌==◌, List, length, if◌then◌else◌}
 use Rattle.xn_model.specs.Graph.{ends_at}
-use Rattle.xn_model.specs.Map.{IsFlat, IsMap, component_count, face_count}
+use Rattle.xn_model.specs.Map.{MeetsEuler, IsMap, component_count, face_count}
 
 -- the dart that stands where d stood before s was divided: at the second end of s it is the last dart
 abbrev pub dart_now : ℕ → ℕ → ℕ → ℕ
@@ -33,4 +33,4 @@ SubdivisionKeepsCounts =
 abbrev pub SubdivisionKeepsFlat : Type 0
 SubdivisionKeepsFlat =
     (nodes s : ℕ) (ends more : List (ℕ × ℕ)) (next after : ℕ → ℕ) → IsMap nodes ends next → IsSubdivision nodes ends next s more after →
-    IsFlat nodes ends next ↔ IsFlat (suc nodes) more after
+    MeetsEuler nodes ends next ↔ MeetsEuler (suc nodes) more after

@@ -12,7 +12,7 @@ use Rattle.xn_kinds.specs.Bound.{row_at, total_ℤ}
 use Rattle.xn_kinds.specs.Row.{Values, literal, orders_of, turns_value}
 use Rattle.xn_kinds.specs.State.{State}
 use Rattle.xn_kinds.specs.declared.rows.Row.{Row}
-use Rattle.xn_tree.specs.Leaf.{AllWeigh, IsRowOf, WeighsAs, turns_along, turns_of, turns_part}
+use Rattle.xn_tree.specs.Leaf.{AllWeigh, IsRowOf, WeighsAs, turns_along, turns_sum, turns_part}
 use Rattle.xn_tree.specs.Least.{IsLeast, with_before}
 use Rattle.xn_tree.proofs.Edges.{rising_distinct}
 use Rattle.xn_tree.proofs.Kept.{eqb-flip}
@@ -126,7 +126,7 @@ total_ℤ-take h (x ∷ xs) (suc i) d low = omega (arith, ints, total_ℤ-take h
 -- one more part
 pub turns_of-more : (rows : List Row) (parts : List (ℕ × ℕ)) (i : ℕ) (v : Values) → i < length parts →
     let p = get_or parts i (0, 0) in
-    turns_of rows (take (i + 1) parts) v ≡ (turns_of rows (take i parts) v -ℤ pos (p.1 * turns_value (row_at rows p.0) v)) +ℤ pos p.1
+    turns_sum rows (take (i + 1) parts) v ≡ (turns_sum rows (take i parts) v -ℤ pos (p.1 * turns_value (row_at rows p.0) v)) +ℤ pos p.1
 turns_of-more rows parts i v low =
-    let next : turns_of rows (take (i + 1) parts) v ≡ turns_of rows (take (suc i) parts) v = ap (λ k. turns_of rows (take k parts) v) (add-one i) in
+    let next : turns_sum rows (take (i + 1) parts) v ≡ turns_sum rows (take (suc i) parts) v = ap (λ k. turns_sum rows (take k parts) v) (add-one i) in
     omega (arith, ints, next, total_ℤ-take (turns_part rows v) parts i (0, 0) low)

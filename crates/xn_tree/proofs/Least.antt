@@ -7,7 +7,7 @@ use Rattle.xn_model.specs.Lists.{has, one_if, stands_before}
 use Rattle.xn_kinds.specs.Row.{Values}
 use Rattle.xn_kinds.specs.State.{State, InBox}
 use Rattle.xn_tree.specs.Leaf.{IsSmall}
-use Rattle.xn_tree.specs.Least.{Allows, IsChange, IsLeast, IsLeastOf, Moves, Weighs, order_given, with_before, with_cross}
+use Rattle.xn_tree.specs.Least.{Allows, IsChange, IsLeast, IsLesser, Moves, Weighs, order_given, with_before, with_cross}
 
 -- ---- one variable
 
@@ -20,7 +20,7 @@ record IsLeastAt (given : Option Bool) (w : ℕ → ℤ) (b : ℤ) : Type 0 wher
   below : (n : ℕ) → Allows given n → b ≤ℤ w n
   met : (n : ℕ) × Allows given n × (w n ≡ b)
 
-least_at : (given : Option Bool) (w : ℕ → ℤ) (b : ℤ) → IsLeastOf given (w 0) (w 1) b → IsLeastAt given w b
+least_at : (given : Option Bool) (w : ℕ → ℤ) (b : ℤ) → IsLesser given (w 0) (w 1) b → IsLeastAt given w b
 least_at (Some true) w b is = record { below = λ n one. omega (arith, ints, is, ap w one); met = (1, refl, sym is) }
 least_at (Some false) w b is = record { below = λ n zero. omega (arith, ints, is, ap w zero); met = (0, refl, sym is) }
 least_at None w b is = record {
@@ -32,10 +32,10 @@ least_at None w b is = record {
 }
 
 -- the same numbers, written otherwise
-pub least_alike : (given here : Option Bool) (zero one r low high t : ℤ) → IsLeastOf given zero one r → given ≡ here → zero ≡ low → one ≡ high → r ≡ t →
-    IsLeastOf here low high t
+pub least_alike : (given here : Option Bool) (zero one r low high t : ℤ) → IsLesser given zero one r → given ≡ here → zero ≡ low → one ≡ high → r ≡ t →
+    IsLesser here low high t
 least_alike given here zero one r low high t least same same_zero same_one same_r =
-    subst (λ o. IsLeastOf o low high t) same (subst (λ x. IsLeastOf given x high t) same_zero (subst (λ x. IsLeastOf given zero x t) same_one (subst (IsLeastOf given zero one) same_r least)))
+    subst (λ o. IsLesser o low high t) same (subst (λ x. IsLesser given x high t) same_zero (subst (λ x. IsLesser given zero x t) same_one (subst (IsLesser given zero one) same_r least)))
 
 pub change_alike : (given here : Option Bool) (zero one r low high t : ℤ) (for_zero for_one : ℕ) → IsChange given zero one for_zero for_one r →
     given ≡ here → zero ≡ low → one ≡ high → r ≡ t → IsChange here low high for_zero for_one t
@@ -44,7 +44,7 @@ change_alike given here zero one r low high t for_zero for_one change same same_
     (subst (λ x. IsChange given zero x for_zero for_one t) same_one (subst (IsChange given zero one for_zero for_one) same_r change)))
 
 -- and no more than either is far from 0
-pub least_small : (given : Option Bool) (zero one r : ℤ) (n : ℕ) → IsSmall n zero → IsSmall n one → IsLeastOf given zero one r → IsSmall n r
+pub least_small : (given : Option Bool) (zero one r : ℤ) (n : ℕ) → IsSmall n zero → IsSmall n one → IsLesser given zero one r → IsSmall n r
 least_small (Some true) zero one r n small_zero small_one least = (omega (arith, ints, least, small_one.0), omega (arith, ints, least, small_one.1))
 least_small (Some false) zero one r n small_zero small_one least = (omega (arith, ints, least, small_zero.0), omega (arith, ints, least, small_zero.1))
 least_small None zero one r n small_zero small_one least = elim least.2 [
@@ -54,7 +54,7 @@ least_small None zero one r n small_zero small_one least = elim least.2 [
 
 -- numbers that are at most k less have a least that is at most k less
 pub least_gap : (given : Option Bool) (zero one low high l m : ℤ) (k : ℕ) → low ≤ℤ zero → high ≤ℤ one → zero ≤ℤ (low +ℤ pos k) → one ≤ℤ (high +ℤ pos k) →
-    IsLeastOf given zero one l → IsLeastOf given low high m → (m ≤ℤ l) × (l ≤ℤ (m +ℤ pos k))
+    IsLesser given zero one l → IsLesser given low high m → (m ≤ℤ l) × (l ≤ℤ (m +ℤ pos k))
 least_gap (Some true) zero one low high l m k a b c d least less = (omega (arith, ints, least, less, b), omega (arith, ints, least, less, d))
 least_gap (Some false) zero one low high l m k a b c d least less = (omega (arith, ints, least, less, a), omega (arith, ints, least, less, c))
 least_gap None zero one low high l m k a b c d least less = (
@@ -78,7 +78,7 @@ pub record IsVariable (s : State) (given : Option Bool) (val : Values → ℕ) (
 pub moves_by : (s : State) (given : Option Bool) (val : Values → ℕ) (put : Values → ℕ → Values) → IsVariable s given val put →
     (f g : Values → ℤ) (w u : ℕ → ℤ) → Weighs s given val put f w →
     ((v : Values) → InBox s v → (g v +ℤ w (val v)) ≡ (f v +ℤ u (val v))) →
-    (l m r : ℤ) → IsLeastOf given (w 0) (w 1) l → IsLeastOf given (u 0) (u 1) m → (r +ℤ l) ≡ m → Moves s f g r
+    (l m r : ℤ) → IsLesser given (w 0) (w 1) l → IsLesser given (u 0) (u 1) m → (r +ℤ l) ≡ m → Moves s f g r
 moves_by s given val put variable f g w u weighs added l m r w_least u_least gap = λ b least.
     let low = least_at given w l w_least in
     let high = least_at given u m u_least in
@@ -135,7 +135,7 @@ moves_to s f g h r same moves = λ b least.
     }
 
 -- a variable that weighs nothing before
-pub least_none : (given : Option Bool) → IsLeastOf given (pos 0) (pos 0) (pos 0)
+pub least_none : (given : Option Bool) → IsLesser given (pos 0) (pos 0) (pos 0)
 least_none (Some true) = refl
 least_none (Some false) = refl
 least_none None = (omega (arith, ints), omega (arith, ints), inl refl)

@@ -11,7 +11,7 @@ use Rattle.xn_kinds.specs.Row.{Values}
 use Rattle.xn_kinds.specs.State.{State}
 use Rattle.xn_kinds.specs.declared.rows.Row.{Row}
 use Rattle.xn_tree.specs.Leaf.{IgnoresPairs, cross_value, crosses_from, crosses_with, each_pair, edges_from, pair_value}
-use Rattle.xn_tree.specs.Least.{IsLeast, IsLeastOf, Moves, with_cross}
+use Rattle.xn_tree.specs.Least.{IsLeast, IsLesser, Moves, with_cross}
 use Rattle.xn_tree.proofs.Least.{crosses_variable, least_none, least_same, moves_by}
 
 -- the edges from e on begin with e
@@ -73,7 +73,7 @@ module _ (g : Graph) (rows : List Row) (parts : List (ℕ × ℕ)) (d : ℕ) whe
 
   module _ (s : State) (e f : ℕ) (below : f < length g.ends) (rest : Values → ℤ) (ignores : IgnoresPairs e rest) where
     pub adds_pair : (r : ℤ) → independent g.ends e f ≡ true →
-        IsLeastOf (s.decided e f) (pair_value rows parts d e f 0) (pair_value rows parts d e f 1) r →
+        IsLesser (s.decided e f) (pair_value rows parts d e f 0) (pair_value rows parts d e f 1) r →
         Moves s (λ v. crosses_with g rows parts d e (f + 1) v +ℤ rest v) (λ v. crosses_with g rows parts d e f v +ℤ rest v) r
     adds_pair r apart least =
         moves_by s (s.decided e f) (λ v. v.crosses e f) (λ v n. with_cross v e f n) (crosses_variable s e f)

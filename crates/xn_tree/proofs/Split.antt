@@ -13,7 +13,7 @@ use Rattle.xn_kinds.specs.Bound.{IsBound, leaf_value, part_value, row_at, total_
 use Rattle.xn_kinds.specs.Row.{Values, orders_of, pairs_value, turns_value}
 use Rattle.xn_kinds.specs.declared.rows.Row.{Row}
 use Rattle.xn_tree.specs.Least.{IsLeast}
-use Rattle.xn_tree.specs.Leaf.{IsRowOf, cross_value, crosses_from, each_pair, pair_term, pair_weight, turns_of}
+use Rattle.xn_tree.specs.Leaf.{IsRowOf, cross_value, crosses_from, each_pair, pair_term, pair_weight, turns_sum}
 
 -- ---- sums over pairs
 
@@ -180,7 +180,7 @@ module _ (g : Graph) (rows : List Row) (d : ℕ) (v : Values) where
   one_part m a t = omega (arith, ints, times_less m (a + t))
 
   parts_sum : (ps : List (ℕ × ℕ)) → AllByRecursion (λ p. IsRowOf g (row_at rows p.0)) ps →
-      total_ℤ (part_value g rows v) ps ≡ pos (total (λ p. p.1 * total (λ q. pair_term (row_at rows p.0) q.0 q.1 (v.crosses q.0 q.1)) (pairs_of g.ends (edges_of g))) ps) -ℤ turns_of rows ps v
+      total_ℤ (part_value g rows v) ps ≡ pos (total (λ p. p.1 * total (λ q. pair_term (row_at rows p.0) q.0 q.1 (v.crosses q.0 q.1)) (pairs_of g.ends (edges_of g))) ps) -ℤ turns_sum rows ps v
   parts_sum [] each = omega (arith, ints)
   parts_sum (p ∷ ps) each =
       let row = row_at rows p.0 in
@@ -213,13 +213,13 @@ module _ (g : Graph) (rows : List Row) (d : ℕ) (v : Values) where
       omega (arith, ints, split, along_ℤ t e es, pairs_ℤ t es)
 
   pub leaf_split : (parts : List (ℕ × ℕ)) → AllByRecursion (λ p. IsRowOf g (row_at rows p.0)) parts →
-      leaf_value g rows d parts v ≡ crosses_from g rows parts d 0 v +ℤ turns_of rows parts v
+      leaf_value g rows d parts v ≡ crosses_from g rows parts d 0 v +ℤ turns_sum rows parts v
   leaf_split parts each =
       let qs = pairs_of g.ends (edges_of g) in
       let x : ℕ × ℕ → ℕ = λ q. v.crosses q.0 q.1 in
       let w : ℕ × ℕ → ℕ = λ q. pair_weight rows parts q.0 q.1 (v.crosses q.0 q.1) in
-      let sum : total_ℤ (part_value g rows v) parts ≡ pos (total w qs) -ℤ turns_of rows parts v =
-      parts_sum parts each ∙ ap (λ n. pos n -ℤ turns_of rows parts v) (exchange (λ (p : ℕ × ℕ). p.1) (λ (p q : ℕ × ℕ). pair_term (row_at rows p.0) q.0 q.1 (v.crosses q.0 q.1)) parts qs) in
+      let sum : total_ℤ (part_value g rows v) parts ≡ pos (total w qs) -ℤ turns_sum rows parts v =
+      parts_sum parts each ∙ ap (λ n. pos n -ℤ turns_sum rows parts v) (exchange (λ (p : ℕ × ℕ). p.1) (λ (p q : ℕ × ℕ). pair_term (row_at rows p.0) q.0 q.1 (v.crosses q.0 q.1)) parts qs) in
       let whole : length g.ends ≡ length g.ends - 0 = omega arith in
       let pairs : total_ℤ (λ q. pos (d * x q) -ℤ pos (w q)) qs ≡ crosses_from g rows parts d 0 v =
       pairs_ℤ (λ q. pos (d * x q) -ℤ pos (w q)) (edges_of g) ∙ ap (λ n. each_pair (cross_value g rows parts d v) (range_with_len 0 n)) whole in
@@ -230,7 +230,7 @@ module _ (g : Graph) (rows : List Row) (d : ℕ) (v : Values) where
 
 -- the least of a sum of what the pairs give and what the orders give
 pub bound_of_both : (g : Graph) (rows : List Row) (s : State) (d : ℕ) (parts : List (ℕ × ℕ)) → AllByRecursion (λ p. IsRowOf g (row_at rows p.0)) parts → (a b r : ℤ) →
-    IsLeast s (crosses_from g rows parts d 0) a → IsLeast s (turns_of rows parts) b → r ≡ a +ℤ b → IsBound g rows s d parts r
+    IsLeast s (crosses_from g rows parts d 0) a → IsLeast s (turns_sum rows parts) b → r ≡ a +ℤ b → IsBound g rows s d parts r
 bound_of_both g rows s d parts each a b r crosses turns sum =
     let first = crosses.met.0 in
     let second = turns.met.0 in
@@ -242,7 +242,7 @@ bound_of_both g rows s d parts each a b r crosses turns sum =
       placed = turns.met.1.placed;
     } in
     let same_crosses : crosses_from g rows parts d 0 mixed ≡ crosses_from g rows parts d 0 first = refl in
-    let same_turns : turns_of rows parts mixed ≡ turns_of rows parts second = refl in
+    let same_turns : turns_sum rows parts mixed ≡ turns_sum rows parts second = refl in
     record {
       below_all = λ v v_box. omega (arith, ints, sum, crosses.below_all v v_box, turns.below_all v v_box, leaf_split g rows d v parts each);
       met = (mixed, box, omega (arith, ints, sum, leaf_split g rows d mixed parts each, same_crosses, same_turns, crosses.met.2, turns.met.2));

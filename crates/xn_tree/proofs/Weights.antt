@@ -12,7 +12,7 @@ use Rattle.xn_kinds.specs.Bound.{row_at}
 use Rattle.xn_kinds.specs.Row.{Values, literal, orders_of, turns_value}
 use Rattle.xn_kinds.specs.State.{State}
 use Rattle.xn_kinds.specs.declared.rows.Row.{Row}
-use Rattle.xn_tree.specs.Leaf.{AllWeigh, IsRowOf, WeighsAs, turn_loss, turn_term, turns_along, turns_of}
+use Rattle.xn_tree.specs.Leaf.{AllWeigh, IsRowOf, WeighsAs, turn_loss, turn_term, turns_along, turns_sum}
 use Rattle.xn_tree.specs.Least.{IsChange, Moves, order_given, with_before}
 use Rattle.xn_tree.proofs.Edges.{rising_distinct}
 use Rattle.xn_tree.proofs.Least.{allows_small, before_variable, moves_by, moves_to}
@@ -115,7 +115,7 @@ module _ (g : Graph) (v : Values) (e a b n : ℕ) (rises : a < b) (small : n ≤
 
   -- of all parts
   parts-moved : (rows : List Row) (ps : List (ℕ × ℕ)) → AllByRecursion (λ p. IsRowOf g (row_at rows p.0)) ps →
-      (turns_of rows ps (with_before v e a b n) +ℤ turn_loss rows ps e a b (v.before e a b)) ≡ (turns_of rows ps v +ℤ turn_loss rows ps e a b n)
+      (turns_sum rows ps (with_before v e a b n) +ℤ turn_loss rows ps e a b (v.before e a b)) ≡ (turns_sum rows ps v +ℤ turn_loss rows ps e a b n)
   parts-moved rows [] each = refl
   parts-moved rows (p ∷ ps) each =
       let one = value-moved (row_at rows p.0) each.0 in
@@ -128,7 +128,7 @@ module _ (g : Graph) (v : Values) (e a b n : ℕ) (rises : a < b) (small : n ≤
 
 -- in what the parts give, the orders on each edge weigh as in the parts
 pub all_weigh : (g : Graph) (s : State) (rows : List Row) (ps : List (ℕ × ℕ)) (e : ℕ) → AllByRecursion (λ p. IsRowOf g (row_at rows p.0)) ps →
-    AllWeigh s rows ps e (turns_of rows ps)
+    AllWeigh s rows ps e (turns_sum rows ps)
 all_weigh g s rows ps e each f h rises = record {
   moved = λ v n box allows. parts-moved g v e f h n rises (allows_small (order_given (s.placed e) f h) n allows) (box.before_small e f h) rows ps each;
 }

@@ -82,8 +82,8 @@ abbrev pub turns_along : Values → ℕ → List ℕ → ℕ
 turns_along v e xs = total (λ p. 1 - literal v e p.0 p.1) (neighbours xs)
 
 -- what the parts give by their orders
-abbrev pub turns_of : List Row → List (ℕ × ℕ) → Values → ℤ
-turns_of rows parts v = total_ℤ (turns_part rows v) parts
+abbrev pub turns_sum : List Row → List (ℕ × ℕ) → Values → ℤ
+turns_sum rows parts v = total_ℤ (turns_part rows v) parts
 
 -- the order of f and g on e, f below g, weighs in the number as in the parts
 abbrev pub WeighsAs : State → List Row → List (ℕ × ℕ) → ℕ → ℕ → ℕ → (Values → ℤ) → Type 0
@@ -148,5 +148,5 @@ AddsTurns leaf before m e list r =
 -- the same for a row, from what the first parts give
 abbrev pub AddsRow : Leaf → ℕ → ℕ → Row → ℤ → Type 0
 AddsRow leaf before m row r =
-    Moves (state_in leaf) (turns_of leaf.rows.now (first_parts leaf before))
-    (λ v. turns_of leaf.rows.now (first_parts leaf before) v -ℤ pos (m * turns_value row v)) r
+    Moves (state_in leaf) (turns_sum leaf.rows.now (first_parts leaf before))
+    (λ v. turns_sum leaf.rows.now (first_parts leaf before) v -ℤ pos (m * turns_value row v)) r

@@ -18,17 +18,17 @@ abbrev pub Allows : Option Bool → ℕ → Type 0
 Allows given n = MatchOption given (n ≤ 1) (λ x. n ≡ one_if x)
 
 -- b is the least of two numbers, the one for 0 and the one for 1, of those that are allowed
-abbrev pub IsLeastOf : Option Bool → ℤ → ℤ → ℤ → Type 0
-IsLeastOf (Some true) zero one b = b ≡ one
-IsLeastOf (Some false) zero one b = b ≡ zero
-IsLeastOf None zero one b = (b ≤ℤ zero) × (b ≤ℤ one) × ((b ≡ zero) ⊎ (b ≡ one))
+abbrev pub IsLesser : Option Bool → ℤ → ℤ → ℤ → Type 0
+IsLesser (Some true) zero one b = b ≡ one
+IsLesser (Some false) zero one b = b ≡ zero
+IsLesser None zero one b = (b ≤ℤ zero) × (b ≤ℤ one) × ((b ≡ zero) ⊎ (b ≡ one))
 
 -- r leads from the least of two numbers to that of two lesser ones
 pub record IsChange (given : Option Bool) (zero one : ℤ) (for_zero for_one : ℕ) (r : ℤ) : Type 0 where
   pub before : ℤ
   pub after : ℤ
-  pub is_before : IsLeastOf given zero one before
-  pub is_after : IsLeastOf given (zero -ℤ pos for_zero) (one -ℤ pos for_one) after
+  pub is_before : IsLesser given zero one before
+  pub is_after : IsLesser given (zero -ℤ pos for_zero) (one -ℤ pos for_one) after
   pub gap : (r +ℤ before) ≡ after
 
 -- the values with another one for a pair, and for an order on e

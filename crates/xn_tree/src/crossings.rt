@@ -3,7 +3,7 @@ ghost use Rattle.std.specs.Prelude.{◌≡◌, ◌*◌, ◌<◌, ◌≤◌, ◌^
 ghost use Rattle.std.specs.List.Sorted.{IsStrictlyIncreasing};
 ghost use Rattle.xn_model.specs.Lists.{one_if};
 ghost use Rattle.xn_tree.specs.Leaf.{AddsPair, AddsPairsOf, IsLeaf, IsSmall, all_crosses, pair_term, pair_value, pair_weight, state_in};
-ghost use Rattle.xn_tree.specs.Least.{IsLeast, IsLeastOf};
+ghost use Rattle.xn_tree.specs.Least.{IsLeast, IsLesser};
 
 use crate::leasts::least_of;
 use crate::leaves::Leaf;
@@ -51,7 +51,7 @@ fn pair_least(leaf: &Leaf, e: u32, f: u32) -> i128
     requires leaf { IsLeaf leaf.now }
     requires rises { e < f }
     requires below { f < length leaf.now.graph.now.ends }
-    ensures least { let value = pair_value leaf.now.rows.now leaf.now.parts.now leaf.now.d e f in IsLeastOf ((state_in leaf.now).decided e f) (value 0) (value 1) result }
+    ensures least { let value = pair_value leaf.now.rows.now leaf.now.parts.now leaf.now.d e f in IsLesser ((state_in leaf.now).decided e f) (value 0) (value 1) result }
     ensures small { IsSmall 1 result }
 {
     let (zero, one) = pair_weights(leaf, e, f);

@@ -1,11 +1,11 @@
 // The least of two numbers, of which one may be given.
 ghost use Rattle.std.specs.Prelude.{◌≡◌};
 ghost use Rattle.xn_tree.specs.Leaf.{IsSmall};
-ghost use Rattle.xn_tree.specs.Least.{IsChange, IsLeastOf};
+ghost use Rattle.xn_tree.specs.Least.{IsChange, IsLesser};
 
 /// The lesser of the number for 0 and that for 1, or the one for the given value.
 pub fn least_of(given: Option<bool>, zero: i128, one: i128) -> i128
-    ensures { IsLeastOf given zero one result }
+    ensures { IsLesser given zero one result }
 {
     match given {
         Some(true) => one,

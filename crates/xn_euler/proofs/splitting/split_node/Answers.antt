@@ -1,7 +1,7 @@
 use Rattle.std.proofs.Common.{◌≡◌, ℕ, suc, Result, Ok, Err, OnErr, OnOk, arith, subst, sym}
 use Rattle.std.specs.declared.alloc.AllocError.{AllocError}
 use Rattle.xn_model.specs.Lists.{at}
-use Rattle.xn_model.specs.Map.{IsFlat}
+use Rattle.xn_model.specs.Map.{MeetsEuler}
 use Rattle.xn_map.specs.Changes.{StaysFlat}
 use Rattle.xn_map.specs.Cutting.{Splits}
 use Rattle.xn_map.specs.Listed.{IsListedMap, ListedMap}
@@ -10,7 +10,7 @@ use Rattle.xn_euler.proofs.splitting.split_node.Goals as goal
 
 split_flat : (old new : ListedMap) (a b : ℕ) → IsListedMap old → Splits old a b new → StaysFlat old new
 split_flat old new a b listed splits flat =
-    let P : ℕ → Type 0 = λ k. IsFlat k new.web.ends (at new.next) in
+    let P : ℕ → Type 0 = λ k. MeetsEuler k new.web.ends (at new.next) in
     let more : suc old.web.nodes ≡ new.web.nodes = omega (arith, splits.0) in
     subst P more (flat_split old.web.nodes a b old.web.ends new.web.ends (at old.next) (at new.next) listed.is_map splits.1 flat)
 

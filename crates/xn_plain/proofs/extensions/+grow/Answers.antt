@@ -1,7 +1,7 @@
 use Rattle.std.proofs.Common.{ℕ, ◌+◌, ◌*◌, ◌<◌, inl, inr, false, length, refl, sym, subst, arith, List}
 use Rattle.std.proofs.lemmas.Bool.{both_ways, cases_eq}
 use Rattle.std.proofs.lemmas.Result.{IfOk-weaker}
-use Rattle.xn_model.specs.Insertion.{IsCorner, StandsAfter}
+use Rattle.xn_model.specs.Insertion.{IsOldCorner, StandsAfter}
 use Rattle.xn_model.specs.Lists.{at}
 use Rattle.xn_model.specs.Map.{face_step}
 use Rattle.xn_model.specs.Permutation.{Reaches}
@@ -23,7 +23,7 @@ hangs-loop-c-preserved t c = λ can low. elim (cases_eq can.1.corner c.loop-c.c)
             let stands = subst (λ x. StandsAfter n c.args.d x (at growth.next.now) can.0) here can.1.stands in
             let made = goes_on_hung growth c.requires.growing c.args.d c.loop-c.c can.0 w.in_ok-after.after.items w.in_ok-after.ensures.listing stands w.in_ok-after.ensures.stands can.2 in
             both_ways _ w.if-branch.false (w.in_ok-goes_on.ensures.1 (subst (λ (l : List ℕ). CanGoOn growth (at l)) (sym w.deref.ensures.value) made))
-        | hangs-else-is_corner w ↦ both_ways _ w.if-is_corner.false (c.is_corner.ensures.1 (subst (IsCorner growth.web.now.ends growth.done.now c.args.d) here can.1.is_corner))
+        | hangs-else-is_corner w ↦ both_ways _ w.if-is_corner.false (c.is_corner.ensures.1 (subst (IsOldCorner growth.web.now.ends growth.done.now c.args.d) here can.1.is_corner))
       ]
 ]
 
@@ -42,7 +42,7 @@ cuts-loop-c-preserved t c = λ can low. elim (cases_eq can.1.first c.loop-c.c) [
         | cuts-else-is_corner-via-then-is_corner+in_ok-cuts_from+else-branch w ↦
             both_ways _ w.if-branch.false (w.in_ok-cuts_from.ensures.1 (cut_from growth c.requires can c.loop-c.c here))
         | cuts-else-is_corner-via-else-is_corner w ↦
-            both_ways _ w.if-is_corner.false (c.is_corner.ensures.1 (subst (IsCorner growth.web.now.ends growth.done.now (2 * growth.segment)) here can.1.is_first))
+            both_ways _ w.if-is_corner.false (c.is_corner.ensures.1 (subst (IsOldCorner growth.web.now.ends growth.done.now (2 * growth.segment)) here can.1.is_first))
       ]
 ]
 
@@ -73,7 +73,7 @@ cuts_from-loop-b-preserved t c = λ can low. elim (cases_eq can.second c.loop-b.
           | cuts_from-else-is_corner-via-then-is_corner+else-in_one_face v ↦
               both_ways _ v.if-in_one_face.false (v.in_one_face.ensures.1 (subst (λ x. Reaches (face_step next) (next c.args.c) (next x)) here can.one_face))
           | cuts_from-else-is_corner-via-else-is_corner v ↦
-              both_ways _ v.if-is_corner.false (c.is_corner.ensures.1 (subst (IsCorner growth.web.now.ends growth.done.now second) here can.is_second))
+              both_ways _ v.if-is_corner.false (c.is_corner.ensures.1 (subst (IsOldCorner growth.web.now.ends growth.done.now second) here can.is_second))
         ]
       ]
 ]

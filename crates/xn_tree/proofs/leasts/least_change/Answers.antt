@@ -1,16 +1,16 @@
 use Rattle.std.proofs.Common.{arith, ◌≤ℤ◌, refl, ◌^◌}
 use Rattle.std.specs.Prelude.{pos, ◌+ℤ◌, ◌-ℤ◌}
 use Rattle.std.proofs.lemmas.Int.{ints}
-use Rattle.xn_tree.specs.Least.{IsLeastOf}
+use Rattle.xn_tree.specs.Least.{IsLesser}
 use Rattle.xn_tree.proofs.Least.{least_alike, least_gap}
 use Rattle.xn_tree.proofs.leasts.least_change.Goals as goal
 
 pub overflow_sub-result : goal.overflow_sub-result
 overflow_sub-result c =
-    let before : IsLeastOf c.args.given c.args.zero c.args.one c.least_of-before.result =
+    let before : IsLesser c.args.given c.args.zero c.args.one c.least_of-before.result =
     least_alike c.args.given c.args.given _ _ c.least_of-before.result c.args.zero c.args.one c.least_of-before.result c.least_of-before.ensures refl
     (omega (arith, ints)) (omega (arith, ints)) refl in
-    let after : IsLeastOf c.args.given (c.args.zero -ℤ pos c.args.for_zero) (c.args.one -ℤ pos c.args.for_one) c.least_of-after.result =
+    let after : IsLesser c.args.given (c.args.zero -ℤ pos c.args.for_zero) (c.args.one -ℤ pos c.args.for_one) c.least_of-after.result =
     least_alike c.args.given c.args.given _ _ c.least_of-after.result (c.args.zero -ℤ pos c.args.for_zero) (c.args.one -ℤ pos c.args.for_one) c.least_of-after.result
     c.least_of-after.ensures refl (omega (arith, ints, c.from.ensures, c.requires)) (omega (arith, ints, c.from-2.ensures, c.requires)) refl in
     let gap : (c.least_of-after.result ≤ℤ c.least_of-before.result) × (c.least_of-before.result ≤ℤ (c.least_of-after.result +ℤ pos (2 ^ 64))) =
@@ -20,10 +20,10 @@ overflow_sub-result c =
 
 pub returns-clause-change : goal.returns-clause-change
 returns-clause-change c =
-    let before : IsLeastOf c.args.given c.args.zero c.args.one c.least_of-before.result =
+    let before : IsLesser c.args.given c.args.zero c.args.one c.least_of-before.result =
     least_alike c.args.given c.args.given _ _ c.least_of-before.result c.args.zero c.args.one c.least_of-before.result c.least_of-before.ensures refl
     (omega (arith, ints)) (omega (arith, ints)) refl in
-    let after : IsLeastOf c.args.given (c.args.zero -ℤ pos c.args.for_zero) (c.args.one -ℤ pos c.args.for_one) c.least_of-after.result =
+    let after : IsLesser c.args.given (c.args.zero -ℤ pos c.args.for_zero) (c.args.one -ℤ pos c.args.for_one) c.least_of-after.result =
     least_alike c.args.given c.args.given _ _ c.least_of-after.result (c.args.zero -ℤ pos c.args.for_zero) (c.args.one -ℤ pos c.args.for_one) c.least_of-after.result
     c.least_of-after.ensures refl (omega (arith, ints, c.from.ensures, c.requires)) (omega (arith, ints, c.from-2.ensures, c.requires)) refl in
     let gap : (c.least_of-after.result ≤ℤ c.least_of-before.result) × (c.least_of-before.result ≤ℤ (c.least_of-after.result +ℤ pos (2 ^ 64))) =
@@ -39,10 +39,10 @@ returns-clause-change c =
 
 pub returns-clause-small : goal.returns-clause-small
 returns-clause-small c =
-    let before : IsLeastOf c.args.given c.args.zero c.args.one c.least_of-before.result =
+    let before : IsLesser c.args.given c.args.zero c.args.one c.least_of-before.result =
     least_alike c.args.given c.args.given _ _ c.least_of-before.result c.args.zero c.args.one c.least_of-before.result c.least_of-before.ensures refl
     (omega (arith, ints)) (omega (arith, ints)) refl in
-    let after : IsLeastOf c.args.given (c.args.zero -ℤ pos c.args.for_zero) (c.args.one -ℤ pos c.args.for_one) c.least_of-after.result =
+    let after : IsLesser c.args.given (c.args.zero -ℤ pos c.args.for_zero) (c.args.one -ℤ pos c.args.for_one) c.least_of-after.result =
     least_alike c.args.given c.args.given _ _ c.least_of-after.result (c.args.zero -ℤ pos c.args.for_zero) (c.args.one -ℤ pos c.args.for_one) c.least_of-after.result
     c.least_of-after.ensures refl (omega (arith, ints, c.from.ensures, c.requires)) (omega (arith, ints, c.from-2.ensures, c.requires)) refl in
     let gap : (c.least_of-after.result ≤ℤ c.least_of-before.result) × (c.least_of-before.result ≤ℤ (c.least_of-after.result +ℤ pos (2 ^ 64))) =

@@ -6,7 +6,7 @@ use Rattle.std.proofs.lemmas.List.{take_all}
 use Rattle.xn_model.specs.Lists.{total}
 use Rattle.xn_kinds.specs.Bound.{row_at}
 use Rattle.xn_kinds.specs.Row.{Values, orders_of, turns_value}
-use Rattle.xn_tree.specs.Leaf.{IsRowOf, first_parts, state_in, turns_along, turns_of}
+use Rattle.xn_tree.specs.Leaf.{IsRowOf, first_parts, state_in, turns_along, turns_sum}
 use Rattle.xn_tree.proofs.Additions.{each_taken, earlier_out, few_edges, others_weigh, short_list}
 use Rattle.xn_tree.proofs.Edges.{order_at-found, rising_distinct}
 use Rattle.xn_tree.proofs.Least.{moves_join, moves_to}
@@ -59,7 +59,7 @@ loop-i-preserved c =
     let s = state_in leaf in
     let rows = leaf.rows.now in
     let parts = first_parts leaf c.args.before in
-    let from = turns_of rows parts in
+    let from = turns_sum rows parts in
     let along = λ (v : Values) (x : ℕ). turns_along v x (orders_of row x) in
     let taken = λ (k : ℕ) (v : Values). from v -ℤ pos (m * total (along v) (take k edges)) in
     let r = c.list_change-sum.result in
@@ -88,7 +88,7 @@ returns-clause-least c =
     let edges = c.as_slice-edges.result.now in
     let i = c.loop-i.i in
     let all : take i edges ≡ row.edges = take_all i edges (omega arith) ∙ c.as_slice-edges.ensures in
-    let from = turns_of leaf.rows.now (first_parts leaf c.args.before) in
+    let from = turns_sum leaf.rows.now (first_parts leaf c.args.before) in
     moves_to (state_in leaf) from (λ v. from v -ℤ pos (c.args.m * total (λ x. turns_along v x (orders_of row x)) (take i edges)))
     (λ v. from v -ℤ pos (c.args.m * turns_value row v)) _
     (λ v box. ap (λ xs. from v -ℤ pos (c.args.m * total (λ x. turns_along v x (orders_of row x)) xs)) all) c.loop-i.invariant.least
