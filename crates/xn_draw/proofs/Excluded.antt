@@ -45,7 +45,7 @@ module _ (g : Graph) (lists : List (List ℕ)) (next : List ℕ) where
   order_from_orders found = record { lengths = found.lengths; order = no_disorder found }
 
   no_dependent : HasOrders g lists next → NoEntry (order_of g lists) (IsDependent g.ends (order_of g lists))
-  no_dependent found e i low dependent_ = let xs = order_of g lists e in dependent_ (found.orders.apart e (at xs i) (has-get_or xs i 0 low))
+  no_dependent found e i low dependent_ = let xs = order_of g lists e in dependent_ (found.orders.independent e (at xs i) (has-get_or xs i 0 low))
 
   pub crossings_from_drawing : IsListedDrawing g lists next → HasCrossings g lists next
   crossings_from_drawing d = record {

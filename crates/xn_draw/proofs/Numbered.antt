@@ -36,7 +36,7 @@ module _ (ends : List (ℕ × ℕ)) (edges : List ℕ) (ord : ℕ → List ℕ) 
   crosses_in-entry e f crosses = elim (cases_lt e f) [
     | inl below ↦ cond-true _ _ _ (lt-ltb e f below) ∙ is_crossing edges ord mutual_of e f below crosses
     | inr above ↦
-        let other = not_itself ends e f (orders.apart e f crosses) in
+        let other = not_itself ends e f (orders.independent e f crosses) in
         let below : f < e = omega (arith, above, other) in
         cond-false _ _ _ (le-ltb e f above) ∙ is_crossing edges ord mutual_of f e below (orders.both_ways e f crosses)
   ]

@@ -34,7 +34,7 @@ module _ (g : Graph) (lists : List (List ℕ)) (next : List ℕ) where
       edge_list = edge_list (length g.ends);
       within = λ e f h. has-range 0 (length g.ends) e (omega arith) (let low = edge_of_entry g lists in_order.lengths.lists_fit e f h in omega (arith, low));
       no_repeats = λ e. IsDistinct-from_apart nat_eq (order_of g lists e) (distinct_at e);
-      apart = λ e f h. apart_at e f (place_of (order_of g lists e) f h);
+      independent = λ e f h. apart_at e f (place_of (order_of g lists e) f h);
       both_ways = λ e f h. both_at e f (place_of (order_of g lists e) f h);
     };
   }

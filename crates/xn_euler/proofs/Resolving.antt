@@ -40,7 +40,7 @@ ring_of_four next a b c d to_b to_c to_d to_a (suc k) = elim (ring_of_four next 
 first_is : (m : ListedMap) → IsListedMap m → (v a b c d : ℕ) → AreFourDarts m v a b c d → (e : ℕ) → e < length m.next → tail_of m.web.ends e ≡ v →
     ((x : ℕ) → x < e → tail_of m.web.ends x ≢ v) → e ≡ a
 first_is m listed v a b c d four e e_in at_v least =
-    let walk = listed.is_map.round a e four.first_in (omega (arith, e_in, listed.fits)) (four.at_node ∙ sym at_v) in
+    let walk = listed.is_map.one_ring a e four.first_in (omega (arith, e_in, listed.fits)) (four.at_node ∙ sym at_v) in
     let spot = ring_of_four (at m.next) a b c d four.to_second four.to_third four.to_fourth four.to_first walk.0 in
     let low : ¬ (a < e) = λ less. least a less four.at_node in
     omega (arith, spot, walk.1, low, four.least.0, four.least.1, four.least.2)
@@ -50,7 +50,7 @@ least_is : (m : ListedMap) → IsListedMap m → (v a b c d : ℕ) → AreFourDa
     min (min (min s t) u) w ≡ a
 least_is m listed v a b c d four s t u w is t_is u_is w_is =
     let f = at m.next in
-    let walk = listed.is_map.round a s four.first_in is.0 (four.at_node ∙ sym is.1) in
+    let walk = listed.is_map.one_ring a s four.first_in is.0 (four.at_node ∙ sym is.1) in
     let after : (x y z : ℕ) → z ≡ f y → y ≡ x → z ≡ f x = λ x y z z_is y_is. z_is ∙ ap f y_is in
     elim (ring_of_four f a b c d four.to_second four.to_third four.to_fourth four.to_first walk.0) [
       | inl at_a ↦
@@ -97,7 +97,7 @@ least_at m listed v (a, b, c, d, four) s t u w is t_is u_is w_is =
       dart = omega (arith, four.first_in, listed.fits);
       node = four.at_node;
       least = λ x low here.
-          let walk = listed.is_map.round a x four.first_in (omega (arith, low, four.first_in)) (four.at_node ∙ sym here) in
+          let walk = listed.is_map.one_ring a x four.first_in (omega (arith, low, four.first_in)) (four.at_node ∙ sym here) in
           let spot = ring_of_four (at m.next) a b c d four.to_second four.to_third four.to_fourth four.to_first walk.0 in
           omega (arith, spot, walk.1, low, four.least.0, four.least.1, four.least.2);
     }
@@ -151,9 +151,9 @@ round_from_four m listed v a b c d four =
     let b_in : b < n = subst I four.to_second (map.permutes.below a four.first_in) in
     let c_in : c < n = subst I four.to_third (map.permutes.below b b_in) in
     let d_in : d < n = subst I four.to_fourth (map.permutes.below c c_in) in
-    let b_at : tail_of m.web.ends b ≡ v = subst T four.to_second (map.stays a four.first_in ∙ four.at_node) in
-    let c_at : tail_of m.web.ends c ≡ v = subst T four.to_third (map.stays b b_in ∙ b_at) in
-    let d_at : tail_of m.web.ends d ≡ v = subst T four.to_fourth (map.stays c c_in ∙ c_at) in
+    let b_at : tail_of m.web.ends b ≡ v = subst T four.to_second (map.same_node a four.first_in ∙ four.at_node) in
+    let c_at : tail_of m.web.ends c ≡ v = subst T four.to_third (map.same_node b b_in ∙ b_at) in
+    let d_at : tail_of m.web.ends d ≡ v = subst T four.to_fourth (map.same_node c c_in ∙ c_at) in
     let a_not_b : a ≢ b = λ same. omega (arith, same, four.least.0) in
     let a_not_c : a ≢ c = λ same. omega (arith, same, four.least.1) in
     let a_not_d : a ≢ d = λ same. omega (arith, same, four.least.2) in

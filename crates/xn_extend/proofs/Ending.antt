@@ -60,7 +60,7 @@ limited_listed web list limited apart =
 pub map_came : (nodes : ℕ) (ends : List (ℕ × ℕ)) (next : List ℕ) → EndsIn nodes ends → Came ends (2 * length ends) next → IsMap nodes ends (at next)
 map_came nodes ends next ends_in came =
     let live = came_live ends (2 * length ends) next (omega arith) came in
-    record { ends_in = ends_in; permutes = live.permutes; stays = live.stays; round = live.round }
+    record { ends_in = ends_in; permutes = live.permutes; same_node = live.same_node; one_ring = live.one_ring }
 
 module _ (web : Graph) (list : List ℕ) (no_loop : HasNoLoop web.ends) (grows : GrowsFromFirst web.ends list) where
   abbrev listed : List (ℕ × ℕ)

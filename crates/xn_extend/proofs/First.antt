@@ -39,9 +39,9 @@ none_is_flat nodes ends =
       live_is = λ i. refl;
       map = record {
         permutes = record { below = λ d d_in. d_in; apart = λ d e d_in e_in same. same };
-        stays = λ d d_in. refl;
+        same_node = λ d d_in. refl;
         dead = λ d d_in h. refl;
-        round = λ d e d_in e_in d_live e_live tails. absurd (both_ways false refl d_live);
+        one_ring = λ d e d_in e_in d_live e_live tails. absurd (both_ways false refl d_live);
       };
       flat = omega (arith, cycles, lone, components);
     }

@@ -58,7 +58,7 @@ module _ (ends : List (ℕ × ℕ)) (done : List ℕ) (s : ℕ) (after : ℕ →
   first_second same = pair.two_nodes (ap tail same)
 
   pub first_leads : after d ≢ e
-  first_leads same = pair.two_nodes (sym (map.stays d pair.first_in) ∙ ap tail same)
+  first_leads same = pair.two_nodes (sym (map.same_node d pair.first_in) ∙ ap tail same)
 
   -- at a new node the dart is alone
   pub alone : is_old ends done (tail d) ≡ false → after d ≡ d
@@ -70,7 +70,7 @@ module _ (ends : List (ℕ × ℕ)) (done : List ℕ) (s : ℕ) (after : ℕ →
         elim (cases_Bool (has_last.live (y / 2))) [
           | inl lives ↦
               let old = old_from_dart ends done y (old_live y lives other first_leads) in
-              absurd (both_ways (is_old ends done (tail d)) is_new (ap (is_old ends done) (sym (map.stays d pair.first_in)) ∙ old))
+              absurd (both_ways (is_old ends done (tail d)) is_new (ap (is_old ends done) (sym (map.same_node d pair.first_in)) ∙ old))
           | inr dead ↦ absurd (other (map.permutes.apart y d y_in pair.first_in (map.dead y y_in dead)))
         ]
   ]
@@ -79,12 +79,12 @@ module _ (ends : List (ℕ × ℕ)) (done : List ℕ) (s : ℕ) (after : ℕ →
   pub corner_of : is_old ends done (tail d) ≡ true → HasCorner ends done after d e
   corner_of old =
       let c = source_of (2 * length ends) after map.permutes d pair.first_in in
-      let tails : tail c.0 ≡ tail d = sym (map.stays c.0 c.1) ∙ ap tail c.2 in
+      let tails : tail c.0 ≡ tail d = sym (map.same_node c.0 c.1) ∙ ap tail c.2 in
       let not_second : c.0 ≢ e = λ same. pair.two_nodes (sym tails ∙ ap tail same) in
       let not_first : c.0 ≢ d = λ same.
       let is_alone : after d ≡ d = ap after (sym same) ∙ c.2 in
       let x = old_dart ends done has_last.are_in (tail d) old in
-      let there = map.round d x.0 pair.first_in x.1 (live_pair d pair.first_half) (live_old x.0 x.2) (sym x.3) in
+      let there = map.one_ring d x.0 pair.first_in x.1 (live_pair d pair.first_half) (live_old x.0 x.2) (sym x.3) in
       let at_d : x.0 ≡ d = sym there.1 ∙ stays_alone after d is_alone there.0 in
       both_ways (has done s) has_last.new (ap (has done) (sym pair.first_half ∙ ap (λ z. z / 2) (sym at_d)) ∙ x.2)
       in

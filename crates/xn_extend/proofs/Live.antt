@@ -17,8 +17,8 @@ pub record IsLive (ends : List (ℕ × ℕ)) (k : ℕ) (next : List ℕ) : Type 
   pub size : length next ≡ 2 * length ends
   pub permutes : Permutes (2 * length ends) (at next)
   pub alone : (d : ℕ) → k ≤ d → d < 2 * length ends → at next d ≡ d
-  pub stays : (d : ℕ) → d < 2 * length ends → tail_of ends (at next d) ≡ tail_of ends d
-  pub round : (d e : ℕ) → d < k → e < k → tail_of ends d ≡ tail_of ends e → Reaches (at next) d e
+  pub same_node : (d : ℕ) → d < 2 * length ends → tail_of ends (at next d) ≡ tail_of ends d
+  pub one_ring : (d e : ℕ) → d < k → e < k → tail_of ends d ≡ tail_of ends e → Reaches (at next) d e
 
 -- the walk from a number that leads to itself stays there
 pub stays_alone : (f : ℕ → ℕ) (d : ℕ) → f d ≡ d → (k : ℕ) → iterate f k d ≡ d
@@ -35,8 +35,8 @@ live_start ends =
       size = length-range_with_len 0 n;
       permutes = record { below = λ d d_in. omega (arith, at_start n d d_in); apart = λ d e d_in e_in same. sym (at_start n d d_in) ∙ same ∙ at_start n e e_in };
       alone = λ d from d_in. at_start n d d_in;
-      stays = λ d d_in. ap (tail_of ends) (at_start n d d_in);
-      round = λ d e d_in e_in same. absurd (omega arith);
+      same_node = λ d d_in. ap (tail_of ends) (at_start n d d_in);
+      one_ring = λ d e d_in e_in same. absurd (omega arith);
     }
 
 module _ (ends : List (ℕ × ℕ)) (k : ℕ) (next : List ℕ) (live : IsLive ends k next) (k_in : k < 2 * length ends) (y : ℕ) (choice : IsChoice ends k y) where
@@ -97,7 +97,7 @@ module _ (ends : List (ℕ × ℕ)) (k : ℕ) (next : List ℕ) (live : IsLive e
         | inl e_k ↦ absurd (new.1 d (omega (arith, d_in, d_less)) (same ∙ ap (tail_of ends) e_k))
         | inr e_less ↦
             let unchanged : after ≡ next = ap (λ c. swap next c k) new.0 ∙ swap-same next k k_low in
-            subst (λ xs. Reaches (at xs) d e) (sym unchanged) (live.round d e (omega (arith, d_in, d_less)) (omega (arith, e_in, e_less)) same)
+            subst (λ xs. Reaches (at xs) d e) (sym unchanged) (live.one_ring d e (omega (arith, d_in, d_less)) (omega (arith, e_in, e_less)) same)
       ]
     ]
     | inl old ↦
@@ -109,14 +109,14 @@ module _ (ends : List (ℕ × ℕ)) (k : ℕ) (next : List ℕ) (live : IsLive e
           | inl d_k ↦ elim (cases_eq e k) [
             | inl e_k ↦ (0, d_k ∙ sym e_k)
             | inr e_less ↦
-                let y_e = live.round y e old.0 (omega (arith, e_in, e_less)) (old.1 ∙ ap (tail_of ends) (sym d_k) ∙ same) in
+                let y_e = live.one_ring y e old.0 (omega (arith, e_in, e_less)) (old.1 ∙ ap (tail_of ends) (sym d_k) ∙ same) in
                 walks (inr (inr ((0, d_k), y_e)))
           ]
           | inr d_less ↦ elim (cases_eq e k) [
             | inl e_k ↦
-                let d_y = live.round d y (omega (arith, d_in, d_less)) old.0 (same ∙ ap (tail_of ends) e_k ∙ sym old.1) in
+                let d_y = live.one_ring d y (omega (arith, d_in, d_less)) old.0 (same ∙ ap (tail_of ends) e_k ∙ sym old.1) in
                 walks (inr (inl (d_y, (0, sym e_k))))
-            | inr e_less ↦ walks (inl (live.round d e (omega (arith, d_in, d_less)) (omega (arith, e_in, e_less)) same))
+            | inr e_less ↦ walks (inl (live.one_ring d e (omega (arith, d_in, d_less)) (omega (arith, e_in, e_less)) same))
           ]
         ]
   ]
@@ -129,14 +129,14 @@ module _ (ends : List (ℕ × ℕ)) (k : ℕ) (next : List ℕ) (live : IsLive e
         let not_k : d ≢ k = λ same. omega (arith, same, from) in
         let not_y : d ≢ y = λ same. elim choice [ inl old ↦ omega (arith, same, from, old.0) | inr new ↦ not_k (same ∙ new.0) ] in
         splice.others d d_in not_y not_k ∙ live.alone d (omega (arith, from)) d_in;
-    stays = λ d d_in. elim (cases_eq d y) [
+    same_node = λ d d_in. elim (cases_eq d y) [
       | inl at_y ↦ ap (λ x. tail_of ends (at after x)) at_y ∙ ap (tail_of ends) leads_after ∙ sym same_tail ∙ ap (tail_of ends) (sym at_y)
       | inr not_y ↦ elim (cases_eq d k) [
-        | inl at_k ↦ ap (λ x. tail_of ends (at after x)) at_k ∙ ap (tail_of ends) splice.second ∙ live.stays y choice_in ∙ same_tail ∙ ap (tail_of ends) (sym at_k)
-        | inr not_k ↦ ap (tail_of ends) (splice.others d d_in not_y not_k) ∙ live.stays d d_in
+        | inl at_k ↦ ap (λ x. tail_of ends (at after x)) at_k ∙ ap (tail_of ends) splice.second ∙ live.same_node y choice_in ∙ same_tail ∙ ap (tail_of ends) (sym at_k)
+        | inr not_k ↦ ap (tail_of ends) (splice.others d d_in not_y not_k) ∙ live.same_node d d_in
       ]
     ];
-    round = round_after;
+    one_ring = round_after;
   }
 
 -- the darts that came are live

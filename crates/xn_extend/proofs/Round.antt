@@ -16,9 +16,9 @@ use Rattle.xn_ring.specs.Swaps.{JoinsCycles}
 -- next turns round each node through the darts that pass, and every other dart is alone
 pub record IsRoundOn (ends : List (ℕ × ℕ)) (passes : ℕ → Bool) (next : ℕ → ℕ) : Type 0 where
   pub permutes : Permutes (2 * length ends) next
-  pub stays : (x : ℕ) → x < 2 * length ends → tail_of ends (next x) ≡ tail_of ends x
+  pub same_node : (x : ℕ) → x < 2 * length ends → tail_of ends (next x) ≡ tail_of ends x
   pub dead : (x : ℕ) → x < 2 * length ends → passes x ≡ false → next x ≡ x
-  pub round : (x y : ℕ) → x < 2 * length ends → y < 2 * length ends → passes x ≡ true → passes y ≡ true → tail_of ends x ≡ tail_of ends y → Reaches next x y
+  pub one_ring : (x y : ℕ) → x < 2 * length ends → y < 2 * length ends → passes x ≡ true → passes y ≡ true → tail_of ends x ≡ tail_of ends y → Reaches next x y
 
 -- d passes too
 abbrev pub and_dart : ℕ → (ℕ → Bool) → ℕ → Bool
@@ -69,7 +69,7 @@ module _ (ends : List (ℕ × ℕ)) (passes : ℕ → Bool) (before after : ℕ 
     | inl here ↦
         let back = reaches_back n after permutes c d c_in joins.one in
         (back.0, ap (iterate after back.0) (eqb-true x d here) ∙ back.1)
-    | inr there ↦ walks x c x_in c_in (map.round x c x_in c_in there c_there (at_d ∙ sym one_node))
+    | inr there ↦ walks x c x_in c_in (map.one_ring x c x_in c_in there c_there (at_d ∙ sym one_node))
   ]
 
   through : (x y : ℕ) → x < n → y < n → and_dart d passes x ≡ true → and_dart d passes y ≡ true → tail x ≡ tail d → tail y ≡ tail d → Reaches after x y
@@ -79,21 +79,21 @@ module _ (ends : List (ℕ × ℕ)) (passes : ℕ → Bool) (before after : ℕ 
   pub IsRoundOn-stands : IsRoundOn ends (and_dart d passes) after
   IsRoundOn-stands = record {
     permutes = permutes;
-    stays = λ x x_in. elim (cases_eq x c) [
+    same_node = λ x x_in. elim (cases_eq x c) [
       | inl at_c ↦ ap (λ y. tail (after y)) at_c ∙ ap tail stands.follows ∙ sym one_node ∙ ap tail (sym at_c)
       | inr not_c ↦ elim (cases_eq x d) [
-        | inl at_d ↦ ap (λ y. tail (after y)) at_d ∙ ap tail stands.leads_on ∙ map.stays c c_in ∙ one_node ∙ ap tail (sym at_d)
-        | inr not_d ↦ ap tail (stands.others x x_in not_c not_d) ∙ map.stays x x_in
+        | inl at_d ↦ ap (λ y. tail (after y)) at_d ∙ ap tail stands.leads_on ∙ map.same_node c c_in ∙ one_node ∙ ap tail (sym at_d)
+        | inr not_d ↦ ap tail (stands.others x x_in not_c not_d) ∙ map.same_node x x_in
       ]
     ];
     dead = λ x x_in h.
         let out = not_dart d passes x h in
         stands.others x x_in (λ same. both_ways (passes x) out.1 (ap passes same ∙ c_there)) out.0 ∙ map.dead x x_in out.1;
-    round = λ x y x_in y_in x_there y_there same. elim (or_cases (eqb x d) (passes x) x_there) [
+    one_ring = λ x y x_in y_in x_there y_there same. elim (or_cases (eqb x d) (passes x) x_there) [
       | inl here ↦ let at_d = ap tail (eqb-true x d here) in through x y x_in y_in x_there y_there at_d (sym same ∙ at_d)
       | inr x_passes ↦ elim (or_cases (eqb y d) (passes y) y_there) [
         | inl here ↦ let at_d = ap tail (eqb-true y d here) in through x y x_in y_in x_there y_there (same ∙ at_d) at_d
-        | inr y_passes ↦ walks x y x_in y_in (map.round x y x_in y_in x_passes y_passes same)
+        | inr y_passes ↦ walks x y x_in y_in (map.one_ring x y x_in y_in x_passes y_passes same)
       ]
     ];
   }
@@ -103,16 +103,16 @@ pub IsRoundOn-new : (ends : List (ℕ × ℕ)) (passes : ℕ → Bool) (next : �
     ((x : ℕ) → passes x ≡ true → tail_of ends x ≢ tail_of ends e) → IsRoundOn ends (and_dart e passes) next
 IsRoundOn-new ends passes next map e is_new = record {
   permutes = map.permutes;
-  stays = map.stays;
+  same_node = map.same_node;
   dead = λ x x_in h. map.dead x x_in (not_dart e passes x h).1;
-  round = λ x y x_in y_in x_there y_there same. elim (or_cases (eqb x e) (passes x) x_there) [
+  one_ring = λ x y x_in y_in x_there y_there same. elim (or_cases (eqb x e) (passes x) x_there) [
     | inl x_here ↦ elim (or_cases (eqb y e) (passes y) y_there) [
       | inl y_here ↦ (0, eqb-true x e x_here ∙ sym (eqb-true y e y_here))
       | inr y_passes ↦ absurd (is_new y y_passes (sym same ∙ ap (tail_of ends) (eqb-true x e x_here)))
     ]
     | inr x_passes ↦ elim (or_cases (eqb y e) (passes y) y_there) [
       | inl y_here ↦ absurd (is_new x x_passes (same ∙ ap (tail_of ends) (eqb-true y e y_here)))
-      | inr y_passes ↦ map.round x y x_in y_in x_passes y_passes same
+      | inr y_passes ↦ map.one_ring x y x_in y_in x_passes y_passes same
     ]
   ];
 }
@@ -125,9 +125,9 @@ pub IsRoundOn-map : (ends : List (ℕ × ℕ)) (live : ℕ → Bool) (done : Lis
     IsRoundOn ends (dart_of done) next
 IsRoundOn-map ends live done next map same = record {
   permutes = map.permutes;
-  stays = map.stays;
+  same_node = map.same_node;
   dead = λ x x_in h. map.dead x x_in (same (x / 2) ∙ h);
-  round = λ x y x_in y_in x_there y_there tails. map.round x y x_in y_in (same (x / 2) ∙ x_there) (same (y / 2) ∙ y_there) tails;
+  one_ring = λ x y x_in y_in x_there y_there tails. map.one_ring x y x_in y_in (same (x / 2) ∙ x_there) (same (y / 2) ∙ y_there) tails;
 }
 
 pair_tests : (ends : List (ℕ × ℕ)) (done : List ℕ) (s d e : ℕ) → ArePair ends s d e → (x : ℕ) → and_dart e (and_dart d (dart_of done)) x ≡ has (s ∷ done) (x / 2)
@@ -157,7 +157,7 @@ IsMapOn-pair ends done s d e next pair map =
     let same = pair_tests ends done s d e pair in
     record {
       permutes = map.permutes;
-      stays = map.stays;
+      same_node = map.same_node;
       dead = λ x x_in h. map.dead x x_in (same x ∙ h);
-      round = λ x y x_in y_in x_there y_there tails. map.round x y x_in y_in (same x ∙ x_there) (same y ∙ y_there) tails;
+      one_ring = λ x y x_in y_in x_there y_there tails. map.one_ring x y x_in y_in (same x ∙ x_there) (same y ∙ y_there) tails;
     }

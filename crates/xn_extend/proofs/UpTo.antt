@@ -27,10 +27,10 @@ IsFlatUpTo-same nodes ends done f g is same =
       live_is = is.live_is;
       map = record {
         permutes = Permutes-agrees n f g is.map.permutes same;
-        stays = λ d d_in. ap (tail_of ends) (same d d_in) ∙ is.map.stays d d_in;
+        same_node = λ d d_in. ap (tail_of ends) (same d d_in) ∙ is.map.same_node d d_in;
         dead = λ d d_in h. same d d_in ∙ is.map.dead d d_in h;
-        round = λ d e d_in e_in d_live e_live tails.
-            let there = is.map.round d e d_in e_in d_live e_live tails in
+        one_ring = λ d e d_in e_in d_live e_live tails.
+            let there = is.map.one_ring d e d_in e_in d_live e_live tails in
             (there.0, iterate-agrees n f g is.map.permutes same d there.0 d_in ∙ there.1);
       };
       flat = let flat = is.flat in omega (arith, flat, count);
@@ -45,9 +45,9 @@ IsFlatUpTo-by nodes ends live done last is live_is =
     λ xs. nodes + (cycle_count (2 * length ends) (face_step last) + count_below nodes (is_lone xs)) ≡ 2 * component_count nodes xs + length ends in (
       record {
         permutes = is.map.permutes;
-        stays = is.map.stays;
+        same_node = is.map.same_node;
         dead = λ d d_in h. is.map.dead d d_in (same _ ∙ h);
-        round = λ d e d_in e_in d_live e_live tails. is.map.round d e d_in e_in (same _ ∙ d_live) (same _ ∙ e_live) tails;
+        one_ring = λ d e d_in e_in d_live e_live tails. is.map.one_ring d e d_in e_in (same _ ∙ d_live) (same _ ∙ e_live) tails;
       },
       subst P (kept-congr is.live live ends (λ i i_in. same i)) is.flat,
     )

@@ -74,10 +74,10 @@ module _ (nodes : ℕ) (ends part : List (ℕ × ℕ)) (e : ℕ → ℕ) (is : I
   IsMap-part = record {
     ends_in = EndsIn_tails nodes part (λ j j_in. let low = tail_in nodes ends ends_in (e j) (is.below j j_in) in omega (arith, low, is.tails j j_in));
     permutes = after_permutes;
-    stays = λ j j_in.
-        is.tails (after j) (after_in j j_in) ∙ ap (tail_of ends) (step j j_in) ∙ map.stays (e j) (is.below j j_in) ∙ sym (is.tails j j_in);
-    round = λ i j i_in j_in same.
-        let there = map.round (e i) (e j) (is.below i i_in) (is.below j j_in) (keeps i i_in) (keeps j j_in) (sym (is.tails i i_in) ∙ same ∙ is.tails j j_in) in
+    same_node = λ j j_in.
+        is.tails (after j) (after_in j j_in) ∙ ap (tail_of ends) (step j j_in) ∙ map.same_node (e j) (is.below j j_in) ∙ sym (is.tails j j_in);
+    one_ring = λ i j i_in j_in same.
+        let there = map.one_ring (e i) (e j) (is.below i i_in) (is.below j j_in) (keeps i i_in) (keeps j j_in) (sym (is.tails i i_in) ∙ same ∙ is.tails j j_in) in
         let along = walks_on there.0 i i_in in
         (there.0, is.apart _ j along.0 j_in (along.1 ∙ there.1));
   }

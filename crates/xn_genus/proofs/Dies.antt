@@ -115,8 +115,8 @@ module _ (nodes : ℕ) (ends : List (ℕ × ℕ)) (live : ℕ → Bool) (next : 
   once_stays x x_in = elim (cases_eq x first) [
     | inl at_first ↦ ap (λ y. tail (once y)) at_first ∙ ap tail once_first ∙ ap tail (sym at_first)
     | inr other ↦ elim (cases_eq (next x) first) [
-      | inl leads ↦ ap tail (without-before first next x other leads) ∙ map.stays first first_in ∙ ap tail (sym leads) ∙ map.stays x x_in
-      | inr passes ↦ ap tail (without-other first next x other passes) ∙ map.stays x x_in
+      | inl leads ↦ ap tail (without-before first next x other leads) ∙ map.same_node first first_in ∙ ap tail (sym leads) ∙ map.same_node x x_in
+      | inr passes ↦ ap tail (without-other first next x other passes) ∙ map.same_node x x_in
     ]
   ]
 
@@ -132,7 +132,7 @@ module _ (nodes : ℕ) (ends : List (ℕ × ℕ)) (live : ℕ → Bool) (next : 
   -- two live darts of one node, neither the first of the segment
   once_round : (x y : ℕ) → x < 2 * half → y < 2 * half → live (x / 2) ≡ true → live (y / 2) ≡ true → x ≢ first → y ≢ first → tail x ≡ tail y → Reaches once x y
   once_round x y x_in y_in x_live y_live x_other y_other same =
-      let there = map.round x y x_in y_in x_live y_live same in
+      let there = map.one_ring x y x_in y_in x_live y_live same in
       let on = (reaches-without first next x x_other there.0).0 (λ e. y_other (sym there.1 ∙ e)) in
       (on.0, on.1 ∙ there.1)
 
@@ -140,7 +140,7 @@ module _ (nodes : ℕ) (ends : List (ℕ × ℕ)) (live : ℕ → Bool) (next : 
   pub IsMapOn-deleted : IsMapOn ends rest deleted
   IsMapOn-deleted = record {
     permutes = deleted_permutes;
-    stays = deleted_stays;
+    same_node = deleted_stays;
     dead = λ x x_in h. elim (rest_dead x h) [
       | inl was ↦
           let alone = map.dead x x_in was in
@@ -151,7 +151,7 @@ module _ (nodes : ℕ) (ends : List (ℕ × ℕ)) (live : ℕ → Bool) (next : 
       | inr (inl at_first) ↦ ap deleted at_first ∙ deleted_first ∙ sym at_first
       | inr (inr at_second) ↦ ap deleted at_second ∙ deleted_second ∙ sym at_second
     ];
-    round = λ x y x_in y_in x_live y_live same.
+    one_ring = λ x y x_in y_in x_live y_live same.
         let xs = rest_live x x_live in
         let ys = rest_live y y_live in
         let there = once_round x y x_in y_in xs.0 ys.0 xs.1 ys.1 same in
@@ -166,10 +166,10 @@ module _ (nodes : ℕ) (ends : List (ℕ × ℕ)) (live : ℕ → Bool) (next : 
       (true_from_ne_false _ (λ t.
       let other = live_dart_if_not_lone ends rest p.0 t in
       let facts = rest_live other.0 other.2 in
-      let there = map.round first other.0 first_in other.1 live_first facts.0 (tail_first ∙ sym other.3) in
+      let there = map.one_ring first other.0 first_in other.1 live_first facts.0 (tail_first ∙ sym other.3) in
       facts.1 (sym there.1 ∙ stays_alone next first alone there.0)))
       (not_from_false _ (ne_eqb _ _ (λ e.
-      let there = map.round first second first_in second_in live_first live_second (tail_first ∙ sym e ∙ sym tail_second) in
+      let there = map.one_ring first second first_in second_in live_first live_second (tail_first ∙ sym e ∙ sym tail_second) in
       omega (arith, there.1, stays_alone next first alone there.0))))
 
   alone_first_back : (is_lone left p.0 && not (eqb p.1 p.0)) ≡ true → next first ≡ first
@@ -177,7 +177,7 @@ module _ (nodes : ℕ) (ends : List (ℕ × ℕ)) (live : ℕ → Bool) (next : 
       let parts : (is_lone left p.0 ≡ true) × (not (eqb p.1 p.0) ≡ true) = and_parts _ _ t in
       let y = next first in
       let y_in = permutes.below first first_in in
-      let at_y = map.stays first first_in in
+      let at_y = map.same_node first first_in in
       elim (cases_eq y first) [
         | inl same ↦ same
         | inr not_first ↦ elim (cases_eq y second) [
@@ -402,7 +402,7 @@ module _ (nodes : ℕ) (ends : List (ℕ × ℕ)) (live : ℕ → Bool) (next : 
       ]
 
   face_walk : (k : ℕ) → Reaches (face_step next) first second ⊎ (label (tail (iterate (face_step next) (suc k) first)) ≡ label p.1)
-  face_walk zero = inr (ap label (ap (λ x. tail (next x)) (reverse-even s) ∙ map.stays second second_in ∙ tail_second))
+  face_walk zero = inr (ap label (ap (λ x. tail (next x)) (reverse-even s) ∙ map.same_node second second_in ∙ tail_second))
   face_walk (suc k) =
       let z = iterate (face_step next) (suc k) first in
       let z_in = iterate_below (2 * half) (face_step next) face_permutes (suc k) first first_in in
@@ -411,9 +411,9 @@ module _ (nodes : ℕ) (ends : List (ℕ × ℕ)) (live : ℕ → Bool) (next : 
         | inr so_far ↦ elim (cases_eq z second) [
           | inl there ↦ inl (suc k, there)
           | inr not_second ↦ elim (cases_eq z first) [
-            | inl again ↦ inr (ap label (ap (λ x. tail (face_step next x)) again ∙ ap (λ x. tail (next x)) (reverse-even s) ∙ map.stays second second_in ∙ tail_second))
+            | inl again ↦ inr (ap label (ap (λ x. tail (face_step next x)) again ∙ ap (λ x. tail (next x)) (reverse-even s) ∙ map.same_node second second_in ∙ tail_second))
             | inr not_first ↦
-                inr (ap label (map.stays (reverse_of z) (reverse_below half z z_in))
+                inr (ap label (map.same_node (reverse_of z) (reverse_below half z z_in))
                 ∙ label_reverse z z_in (live_rest z (face_live (suc k)) not_first not_second) ∙ so_far)
           ]
         ]

@@ -96,9 +96,9 @@ module _ (nodes : ℕ) (ends : List (ℕ × ℕ)) (ends_in : EndsIn nodes ends) 
 pub whole : (nodes : ℕ) (ends : List (ℕ × ℕ)) (next : ℕ → ℕ) → IsMap nodes ends next → IsMapOn ends (λ i. true) next
 whole nodes ends next map = record {
   permutes = map.permutes;
-  stays = map.stays;
+  same_node = map.same_node;
   dead = λ d d_in h. absurd (both_ways true h refl);
-  round = λ d e d_in e_in d_live e_live tails. map.round d e d_in e_in tails;
+  one_ring = λ d e d_in e_in d_live e_live tails. map.one_ring d e d_in e_in tails;
 }
 
 pub euler : (nodes : ℕ) (ends : List (ℕ × ℕ)) (next : ℕ → ℕ) → IsMap nodes ends next →

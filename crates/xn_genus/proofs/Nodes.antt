@@ -35,8 +35,8 @@ module _ (nodes : ℕ) (ends renumbered : List (ℕ × ℕ)) (k next : ℕ → �
     ends_in = EndsIn_tails nodes renumbered (λ d d_in.
         let low = is.numbers.below _ (tail_below d (old d d_in)) in omega (arith, low, is.tails d (old d d_in)));
     permutes = let P : ℕ → Type 0 = λ x. Permutes (2 * x) next in subst P (sym is.all) map.permutes;
-    stays = λ d d_in. is.tails (next d) (map.permutes.below d (old d d_in)) ∙ ap k (map.stays d (old d d_in)) ∙ sym (is.tails d (old d d_in));
-    round = λ d e d_in e_in same. map.round d e (old d d_in) (old e e_in) (same_tails d e (old d d_in) (old e e_in) same);
+    same_node = λ d d_in. is.tails (next d) (map.permutes.below d (old d d_in)) ∙ ap k (map.same_node d (old d d_in)) ∙ sym (is.tails d (old d d_in));
+    one_ring = λ d e d_in e_in same. map.one_ring d e (old d d_in) (old e e_in) (same_tails d e (old d d_in) (old e e_in) same);
   }
 
   lone_there : (w : ℕ) → w < nodes → is_lone ends w ≡ true → is_lone renumbered (k w) ≡ true
@@ -138,7 +138,7 @@ module _ (nodes : ℕ) (ends : List (ℕ × ℕ)) (ends_in : EndsIn nodes ends) 
       omega (arith, top)
 
   pub map_more : (next : ℕ → ℕ) → IsMap nodes ends next → IsMap (suc nodes) ends next
-  map_more next map = record { ends_in = more_in; permutes = map.permutes; stays = map.stays; round = map.round }
+  map_more next map = record { ends_in = more_in; permutes = map.permutes; same_node = map.same_node; one_ring = map.one_ring }
 
 -- a node without darts goes
 module _ (rest v : ℕ) (ends left : List (ℕ × ℕ)) (next : ℕ → ℕ) (map : IsMap (suc rest) ends next) (goes : IsNodeRemoval rest v ends left) where
@@ -183,7 +183,7 @@ module _ (rest v : ℕ) (ends left : List (ℕ × ℕ)) (next : ℕ → ℕ) (ma
       omega (arith, low, is, cases_swap (tail_of ends d), not_v, goes.is_there))
 
   pub map_fewer : IsMap rest left next
-  map_fewer = record { ends_in = left_in; permutes = wide.permutes; stays = wide.stays; round = wide.round }
+  map_fewer = record { ends_in = left_in; permutes = wide.permutes; same_node = wide.same_node; one_ring = wide.one_ring }
 
   pub faces_fewer : face_count (suc rest) ends next ≡ face_count rest left next + 1
   faces_fewer = omega (arith, faces_of_nodes (suc rest) ends left swap next map is_renumbering, lone_more rest left left_in)

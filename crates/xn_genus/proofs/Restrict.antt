@@ -189,9 +189,9 @@ module _ (nodes : ℕ) (ends : List (ℕ × ℕ)) (next : ℕ → ℕ) (map : Is
       let m = done.map in
       record {
         permutes = m.permutes;
-        stays = m.stays;
+        same_node = m.same_node;
         dead = λ d d_in h. m.dead d d_in (done.low (d / 2) (omega arith) ∙ h);
-        round = λ d e d_in e_in d_live e_live tails. m.round d e d_in e_in (done.low (d / 2) (omega arith) ∙ d_live) (done.low (e / 2) (omega arith) ∙ e_live) tails;
+        one_ring = λ d e d_in e_in d_live e_live tails. m.one_ring d e d_in e_in (done.low (d / 2) (omega arith) ∙ d_live) (done.low (e / 2) (omega arith) ∙ e_live) tails;
       }
 
   pub restricted_flat : MeetsEuler nodes ends next → IsFlatOn nodes ends keep passing

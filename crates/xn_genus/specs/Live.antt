@@ -11,9 +11,9 @@ kept live (p ∷ ends) = if live 0 then p ∷ kept (λ i. live (suc i)) ends els
 -- a map of the live segments: every other dart is alone
 pub record IsMapOn (ends : List (ℕ × ℕ)) (live : ℕ → Bool) (next : ℕ → ℕ) : Type 0 where
   pub permutes : Permutes (2 * length ends) next
-  pub stays : (d : ℕ) → d < 2 * length ends → tail_of ends (next d) ≡ tail_of ends d
+  pub same_node : (d : ℕ) → d < 2 * length ends → tail_of ends (next d) ≡ tail_of ends d
   pub dead : (d : ℕ) → d < 2 * length ends → live (d / 2) ≡ false → next d ≡ d
-  pub round : (d e : ℕ) → d < 2 * length ends → e < 2 * length ends → live (d / 2) ≡ true → live (e / 2) ≡ true →
+  pub one_ring : (d e : ℕ) → d < 2 * length ends → e < 2 * length ends → live (d / 2) ≡ true → live (e / 2) ≡ true →
       tail_of ends d ≡ tail_of ends e → Reaches next d e
 
 -- the faces of the live segments, and one face of two darts for each dead segment

@@ -17,7 +17,7 @@ unfolding IsDistinct
 empty_is_state g = record {
   rises = λ e f x is. cc;
   below = λ e f x is. cc;
-  apart = λ e f x is. cc;
+  independent = λ e f x is. cc;
   no_repeats = λ e. tt;
   crosses = λ e f h. absurd (both_ways false refl h);
 }
@@ -52,7 +52,7 @@ module _ (g : Graph) (s : State) (is_state : IsState g s) (e f : ℕ) (x : Bool)
   decided_state rises below apart = record {
     rises = told (λ a b. a < b) rises is_state.rises;
     below = told (λ a b. b < length g.ends) below is_state.below;
-    apart = told (Independent g.ends) apart is_state.apart;
+    independent = told (Independent g.ends) apart is_state.independent;
     no_repeats = is_state.no_repeats;
     crosses = λ a b h. crosses_stays a b (is_state.crosses a b h);
   }
@@ -96,7 +96,7 @@ module _ (g : Graph) (s : State) (is_state : IsState g s) (e f i : ℕ) (crosses
   placed_state = record {
     rises = is_state.rises;
     below = is_state.below;
-    apart = is_state.apart;
+    independent = is_state.independent;
     no_repeats = λ a. elim (cases_Bool (eqb a e)) [
       | inl same ↦ rw same (IsDistinct-insert (s.placed e) i f out (is_state.no_repeats e))
       | inr other ↦ rw other (is_state.no_repeats a)

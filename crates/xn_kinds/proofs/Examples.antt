@@ -31,7 +31,7 @@ module _ (nodes : ℕ) (enough : 5 ≤ nodes) (rest : List (ℕ × ℕ)) where
       below = All-from_recursion (λ v. v < nodes) (0 ∷ 1 ∷ 2 ∷ 3 ∷ 4 ∷ []) (omega arith, (omega arith, (omega arith, (omega arith, (omega arith, tt)))));
       lead = search (rules, arith);
       once = IsDistinct-from_count nat_eq_equiv _ refl;
-      apart = IsDistinct-from_count nat_eq_equiv _ refl;
+      no_node_twice = IsDistinct-from_count nat_eq_equiv _ refl;
     },
   )
 

@@ -74,6 +74,6 @@ listed_orders ends n lists few distinct within apart both_ways = record {
   edge_list = first_edges n (length ends) few;
   within = of_entries _ _ lists within;
   no_repeats = distinct_at _ lists distinct;
-  apart = of_entries _ _ lists apart;
+  independent = of_entries _ _ lists apart;
   both_ways = of_entries _ _ lists both_ways;
 }

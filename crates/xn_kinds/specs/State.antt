@@ -30,7 +30,7 @@ Crosses s e f = (s.decided e f ≡ Some true) ⊎ (s.decided f e ≡ Some true)
 pub record IsState (g : Graph) (s : State) : Type 0 where
   pub rises : (e f : ℕ) (x : Bool) → s.decided e f ≡ Some x → e < f
   pub below : (e f : ℕ) (x : Bool) → s.decided e f ≡ Some x → f < length g.ends
-  pub apart : (e f : ℕ) (x : Bool) → s.decided e f ≡ Some x → Independent g.ends e f
+  pub independent : (e f : ℕ) (x : Bool) → s.decided e f ≡ Some x → Independent g.ends e f
   pub no_repeats : (e : ℕ) → IsDistinct nat_eq (s.placed e)
   pub crosses : (e f : ℕ) → has (s.placed e) f ≡ true → Crosses s e f
 

@@ -71,7 +71,7 @@ module _ (g : Graph) (ord : ℕ → List ℕ) (orders : IsOrders g.ends (edges_o
         let f_in = edge_below f (orders.within f e back) in
         elim (cases_order e f) [
           | inl same ↦
-              let own : independent g.ends e e ≡ true = ap (independent g.ends e) same ∙ orders.apart e f crosses in
+              let own : independent g.ends e e ≡ true = ap (independent g.ends e) same ∙ orders.independent e f crosses in
               absurd (not_of_itself (ends_at g.ends e) own)
           | inr (inl below) ↦ rising e f below f_in
           | inr (inr above) ↦ absurd (both_ways _ (rising f e above e_in) back)

@@ -183,14 +183,14 @@ module _ (web : Graph) (pairs : List (ℕ × ℕ)) (branch : List ℕ) (paths : 
       omega (arith, low, high)
 
   not_branch : (w : ℕ) → has inner w ≡ true → has branch w ≡ false
-  not_branch w inside = false_from_ne_true _ (λ t. distinct-apart branch inner is.apart w t inside)
+  not_branch w inside = false_from_ne_true _ (λ t. distinct-apart branch inner is.no_node_twice w t inside)
 
   pub inner_degree : (w : ℕ) → has inner w ≡ true → dart_count web.ends w ≡ 2
   inner_degree w inside = omega (
     arith,
     counted w,
     count_all web.ends branch w (not_branch w inside) pairs paths are.inside is.lead,
-    distinct-count inner w (distinct-right branch inner is.apart),
+    distinct-count inner w (distinct-right branch inner is.no_node_twice),
     count_if-has inner w inside,
   )
 
@@ -200,5 +200,5 @@ module _ (web : Graph) (pairs : List (ℕ × ℕ)) (branch : List ℕ) (paths : 
   pub branch_degree : (i : ℕ) → i < length branch → dart_count web.ends (slice_index branch i) ≡ degree_in pairs i
   branch_degree i i_in =
       counted (slice_index branch i)
-      ∙ count_branch web.ends branch i i_in (positions_apart branch (distinct-left branch inner is.apart)) pairs paths is.lead are.inside are.loopless
-      (false_from_ne_true _ (λ t. distinct-apart branch inner is.apart (slice_index branch i) (has-at branch i i_in) t))
+      ∙ count_branch web.ends branch i i_in (positions_apart branch (distinct-left branch inner is.no_node_twice)) pairs paths is.lead are.inside are.loopless
+      (false_from_ne_true _ (λ t. distinct-apart branch inner is.no_node_twice (slice_index branch i) (has-at branch i i_in) t))

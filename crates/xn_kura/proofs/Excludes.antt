@@ -56,10 +56,10 @@ module _ (web : Graph) (branch : List ℕ) (pairs : List (ℕ × ℕ)) (paths : 
       let lone = count-not web.nodes (is_lone left) in
       let touched = count-le_cover web.nodes (λ w. not (is_lone left w)) (branch ++ inner) (λ w w_in t.
       let dart = live_dart_if_not_lone web.ends live w (not-true _ t) in
-      ap (has (branch ++ inner)) (sym dart.3) ∙ live_node web.ends branch pairs paths are is.lead is.once is.apart after map dart.0 dart.2) in
+      ap (has (branch ++ inner)) (sym dart.3) ∙ live_node web.ends branch pairs paths are is.lead is.once is.no_node_twice after map dart.0 dart.2) in
       let nodes_length = length-append branch inner in
-      let inner_is = inner_length web.ends branch pairs paths are is.lead is.once is.apart after map in
-      let dart = some_live web.ends branch pairs paths are is.lead is.once is.apart after map some_pair in
+      let inner_is = inner_length web.ends branch pairs paths are is.lead is.once is.no_node_twice after map in
+      let dart = some_live web.ends branch pairs paths are is.lead is.once is.no_node_twice after map some_pair in
       let components = lone-lt_components web.nodes left (EndsIn-kept web.nodes live web.ends flat.is_map.ends_in) (tail_of web.ends dart.0)
       (tail_in web.nodes web.ends flat.is_map.ends_in dart.0 dart.1)
       (false_from_ne_true _ (λ t. no_live_dart_if_lone web.ends live (tail_of web.ends dart.0) t dart.0 dart.1 dart.2 refl)) in
@@ -70,8 +70,8 @@ module _ (web : Graph) (branch : List ℕ) (pairs : List (ℕ × ℕ)) (paths : 
   three_a_face = omega (
     arith,
     marks_are_many n n 3 (face_step after) (λ t. t) (λ d. live (d / 2)) _ (face_permutes web.ends live after map)
-        (three_in_each web.ends branch pairs paths are is.lead is.once is.apart after map),
-    marked_few web.ends branch pairs paths are is.lead is.once is.apart after map,
+        (three_in_each web.ends branch pairs paths are is.lead is.once is.no_node_twice after map),
+    marked_few web.ends branch pairs paths are is.lead is.once is.no_node_twice after map,
   )
 
   -- and four where the pairs go from one side to the other
@@ -79,8 +79,8 @@ module _ (web : Graph) (branch : List ℕ) (pairs : List (ℕ × ℕ)) (paths : 
   four_a_face side crosses = omega (
     arith,
     marks_are_many n n 4 (face_step after) (λ t. t) (λ d. live (d / 2)) _ (face_permutes web.ends live after map)
-        (four_in_each web.ends branch pairs paths are is.lead is.once is.apart after map side crosses),
-    marked_few web.ends branch pairs paths are is.lead is.once is.apart after map,
+        (four_in_each web.ends branch pairs paths are is.lead is.once is.no_node_twice after map side crosses),
+    marked_few web.ends branch pairs paths are is.lead is.once is.no_node_twice after map,
   )
 
 pub no_flat_five : (web : Graph) (branch : List ℕ) (paths : List (List ℕ)) → IsFive web branch paths → (next : ℕ → ℕ) → IsFlat web next → ⊥

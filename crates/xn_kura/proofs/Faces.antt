@@ -193,7 +193,7 @@ module _ (ends : List (ℕ × ℕ)) (branch : List ℕ) (pairs : List (ℕ × �
       let e_live = has-concat paths q (e' / 2) f.far.segment in
       let y = next e' in
       let y_in = map.permutes.below e' f.far.below in
-      let y_at : tail_of ends y ≡ b j = map.stays e' f.far.below ∙ f.far.at in
+      let y_at : tail_of ends y ≡ b j = map.same_node e' f.far.below ∙ f.far.at in
       let found = find_start y j y_in (next_live ends live next map e' f.far.below e_live) y_at f.j_in in
       let r = found.0 in
       let k = found.1 in
@@ -301,7 +301,7 @@ module _ (ends : List (ℕ × ℕ)) (branch : List ℕ) (pairs : List (ℕ × �
     where
       at_start : (d x v : ℕ) → x < n → live (x / 2) ≡ true → tail_of ends x ≡ b v → v < length branch → Reaches face d (next x) → (q i j e e' : ℕ) × IsStart q i j e e' × Reaches face d e
       at_start d x v x_in x_live x_at v_in there =
-          let found2 = find_start (next x) v (map.permutes.below x x_in) (next_live ends live next map x x_in x_live) (map.stays x x_in ∙ x_at) v_in in
+          let found2 = find_start (next x) v (map.permutes.below x x_in) (next_live ends live next map x x_in x_live) (map.same_node x x_in ∙ x_at) v_in in
           (found2.0, v, found2.1, next x, found2.2, found2.3, there)
 
   pub three_in_each : (d : ℕ) → d < n → live (d / 2) ≡ true → HasMarks 3 d

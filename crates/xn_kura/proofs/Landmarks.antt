@@ -32,7 +32,7 @@ k5_is_five = (
     below = All-from_recursion (λ v. v < 5) (0 ∷ 1 ∷ 2 ∷ 3 ∷ 4 ∷ []) (omega arith, (omega arith, (omega arith, (omega arith, (omega arith, tt)))));
     lead = search (rules, arith);
     once = IsDistinct-from_count nat_eq_equiv _ refl;
-    apart = IsDistinct-from_count nat_eq_equiv _ refl;
+    no_node_twice = IsDistinct-from_count nat_eq_equiv _ refl;
   },
 )
 
@@ -43,7 +43,7 @@ k33_is_three_three = (
     below = All-from_recursion (λ v. v < 6) (0 ∷ 1 ∷ 2 ∷ 3 ∷ 4 ∷ 5 ∷ []) (omega arith, (omega arith, (omega arith, (omega arith, (omega arith, (omega arith, tt))))));
     lead = search (rules, arith);
     once = IsDistinct-from_count nat_eq_equiv _ refl;
-    apart = IsDistinct-from_count nat_eq_equiv _ refl;
+    no_node_twice = IsDistinct-from_count nat_eq_equiv _ refl;
   },
 )
 

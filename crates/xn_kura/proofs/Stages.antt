@@ -153,11 +153,11 @@ module _ (web : Graph) (pairs : List (ℕ × ℕ)) (branch : List ℕ) (paths : 
   one_flaw f (ListFlaw j) a b = absurd b
 
   pub no_flaw : (f : EvidenceFlaw) → Flaw f → IsPathSystem web pairs branch paths → ⊥
-  no_flaw (Branch i) flaw is = not_right i flaw (branches_from web.nodes branch is.below (distinct-left branch _ is.apart))
+  no_flaw (Branch i) flaw is = not_right i flaw (branches_from web.nodes branch is.below (distinct-left branch _ is.no_node_twice))
   no_flaw (Broken q) flaw is = not_all q (broken q flaw) is.lead
   no_flaw (Ends q) flaw is = not_all q (elsewhere q flaw) is.lead
   no_flaw (Twice s) flaw is = no_repeat (concat paths) s is.once flaw.2
-  no_flaw (Inner v) flaw is = no_repeat (branch ++ all_inner web.ends branch pairs paths) v is.apart flaw.3
+  no_flaw (Inner v) flaw is = no_repeat (branch ++ all_inner web.ends branch pairs paths) v is.no_node_twice flaw.3
   no_flaw (ListFlaw i) flaw is = flaw
 
   -- an answer that is a flaw only where that is the first, and none only where the evidence holds, is exact

@@ -203,7 +203,7 @@ module _ (web : Graph) (pairs chosen : List (ℕ × ℕ)) (branch nodes : List �
   inner_distinct q q_in =
       let P : List ℕ → Type 0 = λ xs. IsDistinct eqb xs in
       subst P (inners_at ends branch pairs paths as_long q q_in)
-      (path_distinct (inners ends branch pairs paths) (subst P (sym (inners-concat ends branch pairs paths)) (distinct-right branch _ is.apart)) q)
+      (path_distinct (inners ends branch pairs paths) (subst P (sym (inners-concat ends branch pairs paths)) (distinct-right branch _ is.no_node_twice)) q)
 
   follows : (q : ℕ) → q < length chosen → Follows q
   follows q q_in =
@@ -243,7 +243,7 @@ module _ (web : Graph) (pairs chosen : List (ℕ × ℕ)) (branch nodes : List �
   one_inner : (q r w : ℕ) → q < length pairs → r < length pairs → has (inner_of q) w ≡ true → has (inner_of r) w ≡ true → q ≡ r
   one_inner q r w q_in r_in a b =
       let P : List ℕ → Type 0 = λ xs. IsDistinct eqb xs in
-      one_path (inners ends branch pairs paths) (subst P (sym (inners-concat ends branch pairs paths)) (distinct-right branch _ is.apart)) q r w
+      one_path (inners ends branch pairs paths) (subst P (sym (inners-concat ends branch pairs paths)) (distinct-right branch _ is.no_node_twice)) q r w
       (ap (λ xs. has xs w) (inners_at ends branch pairs paths as_long q q_in) ∙ a) (ap (λ xs. has xs w) (inners_at ends branch pairs paths as_long r r_in) ∙ b)
 
   pub subdivision_of_some : IsPathSystem web chosen nodes turns
@@ -270,10 +270,10 @@ module _ (web : Graph) (pairs chosen : List (ℕ × ℕ)) (branch nodes : List �
             let q_in' : q < length chosen = omega (arith, q_in, some.as_many) in
             let r_in' : r < length chosen = omega (arith, r_in, some.as_many) in
             some.apart q r q_in' r_in' (one_path paths is.once (from q) (from r) s ((follows q q_in').segment s a) ((follows r r_in').segment s b)));
-        apart = distinct-append nodes (all_inner ends nodes chosen turns) some.nodes_once (subst P (inners-concat ends nodes chosen turns) inner_once) (λ v a b.
+        no_node_twice = distinct-append nodes (all_inner ends nodes chosen turns) some.nodes_once (subst P (inners-concat ends nodes chosen turns) inner_once) (λ v a b.
             let inside : has (concat (inners ends nodes chosen turns)) v ≡ true = ap (λ xs. has xs v) (inners-concat ends nodes chosen turns) ∙ b in
             let found = in_concat (inners ends nodes chosen turns) v inside in
             let q_in : found.0 < length chosen = omega (arith, found.1, long) in
-            distinct-apart branch _ is.apart v (some.among v a)
+            distinct-apart branch _ is.no_node_twice v (some.among v a)
             (inner_at ends branch pairs paths is.lead (from found.0) (some.below found.0 q_in) v ((follows found.0 q_in).inner v (ap (λ xs. has xs v) (sym (at found.0 q_in)) ∙ found.2))));
       }

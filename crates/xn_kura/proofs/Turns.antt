@@ -27,7 +27,7 @@ module _ (ends : List (ℕ × ℕ)) (live : ℕ → Bool) (next : ℕ → ℕ) (
   -- a live dart with another live dart at its node turns
   pub next_moves : (a b : ℕ) → a < n → b < n → live (a / 2) ≡ true → live (b / 2) ≡ true → tail_of ends a ≡ tail_of ends b → a ≢ b → next a ≢ a
   next_moves a b a_in b_in a_live b_live same differ alone =
-      let there = map.round a b a_in b_in a_live b_live same in
+      let there = map.one_ring a b a_in b_in a_live b_live same in
       differ (sym (stays there.0) ∙ there.1)
     where
       stays : (k : ℕ) → iterate next k a ≡ a
@@ -44,7 +44,7 @@ module _ (ends : List (ℕ × ℕ)) (live : ℕ → Bool) (next : ℕ → ℕ) (
         | inl same ↦ same
         | inr other ↦
             let moves = next_moves a b a_in b_in a_live b_live (a_at ∙ sym b_at) differ in
-            let c_at : tail_of ends c ≡ w = map.stays a a_in ∙ a_at in
+            let c_at : tail_of ends c ≡ w = map.same_node a a_in ∙ a_at in
             let p = λ (z : ℕ). live (z / 2) && eqb (tail_of ends z) w in
             let three = distinct-le n p (c ∷ a ∷ b ∷ [])
             ((ne_eqb _ _ moves, (ne_eqb _ _ other, tt)), ((ne_eqb _ _ differ, tt), (tt, tt)))

@@ -95,7 +95,7 @@ module _ (web : Graph) (pairs : List (ℕ × ℕ)) (branch : List ℕ) (paths : 
   inner_of q = inner_nodes ends (u_at q) (path_at paths q)
 
   branch_once : IsDistinct eqb branch
-  branch_once = distinct-left branch _ covers.is.apart
+  branch_once = distinct-left branch _ covers.is.no_node_twice
 
   leads : (q : ℕ) → q < length pairs → LeadsTo ends (u_at q) (path_at paths q) (v_at q)
   leads q q_in = lead_at ends branch pairs paths covers.is.lead q q_in
@@ -109,7 +109,7 @@ module _ (web : Graph) (pairs : List (ℕ × ℕ)) (branch : List ℕ) (paths : 
   inside q q_in w h = inner_at ends branch pairs paths covers.is.lead q q_in w h
 
   no_inner : (q : ℕ) → q < length pairs → (i : ℕ) → i < length branch → has (inner_of q) (b i) ≡ false
-  no_inner q q_in i i_in = false_from_ne_true _ (λ h. distinct-apart branch _ covers.is.apart (b i) (has-at branch i i_in) (inside q q_in (b i) h))
+  no_inner q q_in i i_in = false_from_ne_true _ (λ h. distinct-apart branch _ covers.is.no_node_twice (b i) (has-at branch i i_in) (inside q q_in (b i) h))
 
   degree_at : (i : ℕ) → i < length branch → dart_count ends (b i) ≡ k
   degree_at i i_in = branch_degree web pairs branch paths covers.are covers.is covers.used i i_in ∙ covers.degrees i i_in

@@ -126,7 +126,7 @@ module _ (nodes : ℕ) (old mid : Graph) (next : ℕ → ℕ) (a u v : ℕ) (map
   a_stays = arc.stayed a at_u.0 (λ there. there.2 there.0 (omega arith) there.1)
 
   turned : (x : ℕ) → x < 2 * length old.ends → tail_of old.ends x ≡ u → (x ≡ a) ⊎ InArc next (next a) a x
-  turned x x_in here = let walk = map.round a x at_u.0 x_in (at_u.1 ∙ sym here) in in_ring next a walk.0 x walk.1
+  turned x x_in here = let walk = map.one_ring a x at_u.0 x_in (at_u.1 ∙ sym here) in in_ring next a walk.0 x walk.1
 
   -- once the arc has moved a is alone at its node
   pub last_behind : StaysBehind mid.ends a v a
@@ -157,7 +157,7 @@ module _ (nodes : ℕ) (old mid : Graph) (next : ℕ → ℕ) (a u v : ℕ) (map
               let other : x ≢ a = λ same. away (ap (tail_of old.ends) same ∙ at_u.1) in
               let apart : InArc next (next a) a x → ⊥ = λ there.
               away (ap (tail_of old.ends) (sym there.1)
-              ∙ tail_walk n old.ends next map.permutes map.stays (next a) (map.permutes.below a at_u.0) there.0 ∙ map.stays a at_u.0 ∙ at_u.1) in
+              ∙ tail_walk n old.ends next map.permutes map.same_node (next a) (map.permutes.below a at_u.0) there.0 ∙ map.same_node a at_u.0 ∙ at_u.1) in
               move.tails x x_mid ∙ cond-false _ _ _ (ne_eqb x a other) ∙ arc.stayed x x_in apart ∙ sym (cond-false _ _ _ (ne_eqb _ u away))
         ];
   }

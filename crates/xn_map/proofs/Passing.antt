@@ -171,7 +171,7 @@ ring_of_two next p q to_q to_p (suc k) = elim (ring_of_two next p q to_q to_p k)
 -- a dart at v is one of its two
 pub one_of_two : (m : ListedMap) → IsListedMap m → (v p q : ℕ) → AreTwoDarts m v p q → (d : ℕ) → d < 2 * length m.web.ends → tail_of m.web.ends d ≡ v → (d ≡ p) ⊎ (d ≡ q)
 one_of_two m listed v p q two d d_in at_v =
-    let walk = listed.is_map.round p d two.first_in d_in (two.at_node ∙ sym at_v) in
+    let walk = listed.is_map.one_ring p d two.first_in d_in (two.at_node ∙ sym at_v) in
     elim (ring_of_two (at m.next) p q two.to_second two.to_first walk.0) [
       | inl first ↦ inl (sym walk.1 ∙ first)
       | inr second ↦ inr (sym walk.1 ∙ second)
@@ -308,14 +308,14 @@ module _ (m : ListedMap) (listed : IsListedMap m) (v p q : ℕ) (two : AreTwoDar
                 start_apart i j i_low j_low
                 (listed.is_map.permutes.apart (dart_smoothed p q last i) (dart_smoothed p q last j) (start_in i i_low).0 (start_in j j_low).0 on);
           };
-          stays = λ j j_in.
+          same_node = λ j j_in.
               let j_low = low j j_in in
-              led_tail (at next j) (next_in j j_low) ∙ ap (tail_of m.web.ends) (turns j j_low) ∙ listed.is_map.stays (dart_smoothed p q last j) (start_in j j_low).0
+              led_tail (at next j) (next_in j j_low) ∙ ap (tail_of m.web.ends) (turns j j_low) ∙ listed.is_map.same_node (dart_smoothed p q last j) (start_in j j_low).0
               ∙ sym (led_tail j j_low);
-          round = λ i j i_in j_in same.
+          one_ring = λ i j i_in j_in same.
               let i_low = low i i_in in
               let j_low = low j j_in in
-              let walk = listed.is_map.round (dart_smoothed p q last i) (dart_smoothed p q last j) (start_in i i_low).0 (start_in j j_low).0
+              let walk = listed.is_map.one_ring (dart_smoothed p q last i) (dart_smoothed p q last j) (start_in i i_low).0 (start_in j j_low).0
               (sym (led_tail i i_low) ∙ same ∙ led_tail j j_low) in
               let w = walks walk.0 i i_low in
               (walk.0, start_apart (iterate (at next) walk.0 i) j w.0 j_low (w.1 ∙ walk.1));

@@ -103,7 +103,7 @@ module _ (m : ListedMap) (listed : IsListedMap m) (d : ℕ) (d_in : d < length m
   d_low = omega (arith, d_in, listed.fits)
 
   mates : (x : ℕ) → IsDartOf m.web.ends (tail_of m.web.ends d) x → Reaches (at m.next) d x
-  mates x is = listed.is_map.round d x d_low is.0 (sym is.1)
+  mates x is = listed.is_map.one_ring d x d_low is.0 (sym is.1)
 
   pub outlasts_near : at m.next d ≢ reverse_of d → OutlastsAt m.web.ends (d / 2) d (at m.next d)
   outlasts_near other = elim (cases_eq (at m.next d / 2) (d / 2)) [
@@ -113,7 +113,7 @@ module _ (m : ListedMap) (listed : IsListedMap m) (d : ℕ) (d_in : d < length m
           elim (ring_of_two (at m.next) d d alone alone walk.0) [ inl one ↦ ap (λ z. z / 2) (sym walk.1 ∙ one) | inr two ↦ ap (λ z. z / 2) (sym walk.1 ∙ two) ])
       | inr turned ↦ absurd (other turned)
     ]
-    | inr away ↦ inl ((listed.is_map.permutes.below d d_low, listed.is_map.stays d d_low), away)
+    | inr away ↦ inl ((listed.is_map.permutes.below d d_low, listed.is_map.same_node d d_low), away)
   ]
 
   pub outlasts_far : at m.next d ≡ reverse_of d → OutlastsAt m.web.ends (d / 2) d (at m.next (at m.next d))
@@ -132,5 +132,5 @@ module _ (m : ListedMap) (listed : IsListedMap m) (d : ℕ) (d_in : d < length m
               let same : d ≡ f d = listed.is_map.permutes.apart d (f d) d_low next_in (turned ∙ sym twice) in
               absurd (reverse_other d (sym turned ∙ sym same))
         ]
-        | inr away ↦ inl ((listed.is_map.permutes.below (f d) next_in, listed.is_map.stays (f d) next_in ∙ listed.is_map.stays d d_low), away)
+        | inr away ↦ inl ((listed.is_map.permutes.below (f d) next_in, listed.is_map.same_node (f d) next_in ∙ listed.is_map.same_node d d_low), away)
       ]

@@ -179,8 +179,8 @@ IsMap-from_right nodes ends next ends_in right together =
     record {
       ends_in = ends_in;
       permutes = permutes;
-      stays = λ d d_in. (walk_stays ends next right 1 d d_in).1;
-      round = λ d e d_in e_in same.
+      same_node = λ d d_in. (walk_stays ends next right 1 d d_in).1;
+      one_ring = λ d e d_in e_in same.
           let least = least_dart ends d in
           let c = least.0 in
           let to_d = reached c d d_in least.2 in
@@ -207,7 +207,7 @@ pub flaws_are_no_maps : FlawsAreNoMaps
 flaws_are_no_maps nodes ends next d flaw map = elim flaw.1 [
   | inl wrong ↦ elim wrong.here [
     | inl far ↦ omega (arith, far, map.permutes.below d flaw.0)
-    | inr (inl away) ↦ away (map.stays d flaw.0)
+    | inr (inl away) ↦ away (map.same_node d flaw.0)
     | inr (inr taken) ↦
         let same = map.permutes.apart taken.0 d (omega (arith, taken.1, flaw.0)) flaw.0 taken.2 in
         omega (arith, same, taken.1)
@@ -216,5 +216,5 @@ flaws_are_no_maps nodes ends next d flaw map = elim flaw.1 [
       let c = apart.1.here.0 in
       let first = apart.1.here.1 in
       let c_in : c < 2 * length ends = elim (cases_lt d c) [ inl high ↦ absurd (first.before d high refl) | inr low ↦ omega (arith, low, flaw.0) ] in
-      apart.1.here.2 (map.round c d c_in flaw.0 first.here)
+      apart.1.here.2 (map.one_ring c d c_in flaw.0 first.here)
 ]

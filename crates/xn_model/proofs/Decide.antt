@@ -50,8 +50,8 @@ map_of_test web next tested = record {
     below = λ d low. lt_of _ _ (and_both _ _ (at_d d low)).0;
     apart = λ d e d_low e_low same. eqb-true d e (implied _ _ (and_both _ _ (at_both d e d_low e_low)).0 (eq-eqb _ _ same));
   };
-  stays = λ d low. eqb-true _ _ (and_both _ _ (and_both _ _ (at_d d low)).1).0;
-  round = λ d e d_low e_low same. reach next _ d e (implied _ _ (and_both _ _ (at_both d e d_low e_low)).1 (eq-eqb _ _ same));
+  same_node = λ d low. eqb-true _ _ (and_both _ _ (and_both _ _ (at_d d low)).1).0;
+  one_ring = λ d e d_low e_low same. reach next _ d e (implied _ _ (and_both _ _ (at_both d e d_low e_low)).1 (eq-eqb _ _ same));
 }
   where
     ends : List (ℕ × ℕ)

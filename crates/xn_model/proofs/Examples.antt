@@ -69,7 +69,7 @@ orders = record {
   edge_list = edge_list 10;
   within = by_pair (λ e f. has (edges_of k5) e ≡ true) refl refl;
   no_repeats = once;
-  apart = by_pair (λ e f. Independent k5.ends e f) refl refl;
+  independent = by_pair (λ e f. Independent k5.ends e f) refl refl;
   both_ways = by_pair (λ e f. has (ord f) e ≡ true) refl refl;
 }
 

@@ -38,7 +38,7 @@ pub record IsPathSystem (web : Graph) (pairs : List (ℕ × ℕ)) (branch : List
   pub below : All (λ v. v < web.nodes) branch
   pub lead : LeadAll web.ends branch pairs paths
   pub once : IsDistinct nat_eq (concat paths)
-  pub apart : IsDistinct nat_eq (branch ++ all_inner web.ends branch pairs paths)
+  pub no_node_twice : IsDistinct nat_eq (branch ++ all_inner web.ends branch pairs paths)
 
 -- the pairs of five nodes
 abbrev pub five_pairs : List (ℕ × ℕ)

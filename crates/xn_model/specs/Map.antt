@@ -20,8 +20,8 @@ face_step next d = next (reverse_of d)
 pub record IsMap (nodes : ℕ) (ends : List (ℕ × ℕ)) (next : ℕ → ℕ) : Type 0 where
   pub ends_in : EndsIn nodes ends
   pub permutes : Permutes (2 * length ends) next
-  pub stays : (d : ℕ) → d < 2 * length ends → tail_of ends (next d) ≡ tail_of ends d
-  pub round : (d e : ℕ) → d < 2 * length ends → e < 2 * length ends → tail_of ends d ≡ tail_of ends e → Reaches next d e
+  pub same_node : (d : ℕ) → d < 2 * length ends → tail_of ends (next d) ≡ tail_of ends d
+  pub one_ring : (d e : ℕ) → d < 2 * length ends → e < 2 * length ends → tail_of ends d ≡ tail_of ends e → Reaches next d e
 
 -- v has no dart
 abbrev pub is_lone : List (ℕ × ℕ) → ℕ → Bool

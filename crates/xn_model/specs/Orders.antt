@@ -21,7 +21,7 @@ pub record IsOrders (ends : List (ℕ × ℕ)) (edges : List ℕ) (ord : ℕ →
   pub edge_list : IsEdgeList (length ends) edges
   pub within : (e f : ℕ) → has (ord e) f ≡ true → has edges e ≡ true
   pub no_repeats : (e : ℕ) → IsDistinct nat_eq (ord e)
-  pub apart : (e f : ℕ) → has (ord e) f ≡ true → Independent ends e f
+  pub independent : (e f : ℕ) → has (ord e) f ≡ true → Independent ends e f
   pub both_ways : (e f : ℕ) → has (ord e) f ≡ true → has (ord f) e ≡ true
 
 -- the pairs that cross, in lexicographic order

@@ -107,9 +107,9 @@ module _ (web : Graph) (next turns : ℕ → ℕ) (same : (d : ℕ) → d < 2 * 
         is_map = record {
           ends_in = map_is.ends_in;
           permutes = Permutes-agrees n next turns map_is.permutes same;
-          stays = λ d low. ap (tail_of web.ends) (same d low) ∙ map_is.stays d low;
-          round = λ d e d_low e_low tails.
-              let reached = map_is.round d e d_low e_low tails in (reached.0, iterate-agrees n next turns map_is.permutes same d reached.0 d_low ∙ reached.1);
+          same_node = λ d low. ap (tail_of web.ends) (same d low) ∙ map_is.same_node d low;
+          one_ring = λ d e d_low e_low tails.
+              let reached = map_is.one_ring d e d_low e_low tails in (reached.0, iterate-agrees n next turns map_is.permutes same d reached.0 d_low ∙ reached.1);
         };
         flat = omega (arith, faces_same, flat.flat);
       }

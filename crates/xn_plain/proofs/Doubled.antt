@@ -93,7 +93,7 @@ entries-le g ord orders =
     let fits : (e : ℕ) → length (ord e) ≤ met (ord e) es = λ e. length-le_met (ord e) es (test_from_distinct (ord e) (orders.no_repeats e)) (λ f h. orders.within f e (orders.both_ways e f h)) in
     let mutual_tests : (e f : ℕ) → has (ord e) f ≡ has (ord f) e = λ e f. same_tests _ _ (orders.both_ways e f) (orders.both_ways f e) in
     let not_self : (e : ℕ) → has (ord e) e ≡ false = λ e. elim (cases_Bool (has (ord e) e)) [
-      | inl itself ↦ absurd (not_itself g.ends e (orders.apart e e itself))
+      | inl itself ↦ absurd (not_itself g.ends e (orders.independent e e itself))
       | inr other ↦ other
     ] in
     let less = total-le (λ e. length (ord e)) (λ e. met (ord e) es) es fits in

@@ -112,7 +112,7 @@ module _ (g : Graph) (lists : List (List ℕ)) where
     edge_list = edge_list (length g.ends);
     within = within;
     no_repeats = no_repeats are;
-    apart = λ e f h. (entry are e f h).0;
+    independent = λ e f h. (entry are e f h).0;
     both_ways = λ e f h. (entry are e f h).1;
   }
 
@@ -121,7 +121,7 @@ module _ (g : Graph) (lists : List (List ℕ)) where
       and_from _ _ (test_from_distinct (order_of g lists e) (orders.no_repeats e))
       (all_from_has (is_entry g (order_of g lists) e) (order_of g lists e) (λ f h.
       let back = orders.both_ways e f h in
-      and_from _ _ (lt-ltb f (length g.ends) (low_edge f e back)) (and_from _ _ (orders.apart e f h) back)))
+      and_from _ _ (lt-ltb f (length g.ends) (low_edge f e back)) (and_from _ _ (orders.independent e f h) back)))
 
   -- ---- crossings
 

@@ -49,7 +49,7 @@ next_turn g lists turns lacks can = go can.rest can.drawing where
       let map_is = drawing.drawing.is_flat_map.is_map in
       let is : at (turns ++ d ∷ rest) place ≡ d =
       ap (λ i. at (turns ++ d ∷ rest) i) (let z : place ≡ place + 0 = omega arith in z) ∙ get_or-append-add turns (d ∷ rest) 0 0 in
-      let stays : tail_of web.ends d ≡ tail_of web.ends place = ap (tail_of web.ends) (sym is) ∙ map_is.stays place lacks in
+      let stays : tail_of web.ends d ≡ tail_of web.ends place = ap (tail_of web.ends) (sym is) ∙ map_is.same_node place lacks in
       let new : not (has turns d) ≡ true = elim (cases_Bool (has turns d)) [
         | inr out ↦ ap not out
         | inl old ↦

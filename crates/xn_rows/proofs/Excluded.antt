@@ -63,7 +63,7 @@ module _ (g : Graph) (row : Row) where
   order_from_orders orders = record { edge_list = orders.edge_list; order = no_stray orders }
 
   no_dependent : HasOrders g row → NoEntry ord (IsDependent g.ends ord)
-  no_dependent orders e i low dependent_ = dependent_ (orders.apart e (at (ord e) i) (has-get_or (ord e) i 0 low))
+  no_dependent orders e i low dependent_ = dependent_ (orders.independent e (at (ord e) i) (has-get_or (ord e) i 0 low))
 
   not_order : (e f : ℕ) → IsRowFlaw g row (Order e f) → HasOrder g row → ⊥
   not_order e f flaw found = let first = flaw.1.0 in found.order e first.0 first.1 first.2.here

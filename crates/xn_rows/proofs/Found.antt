@@ -52,7 +52,7 @@ module _ (g : Graph) (row : Row) where
     edge_list = in_order.edge_list;
     within = listed row.edges row.orders;
     no_repeats = λ e. IsDistinct-from_apart nat_eq (ord e) (distinct_at e);
-    apart = λ e f h. apart_at e f (place_of (ord e) f h);
+    independent = λ e f h. apart_at e f (place_of (ord e) f h);
     both_ways = λ e f h. both_at e f (place_of (ord e) f h);
   }
     where

@@ -119,7 +119,7 @@ module _ (web : Graph) (pairs : List (ℕ × ℕ)) (branch : List ℕ) (paths : 
         | inr twice ↦ inr (Twice twice.0, (are, lead, twice.1))
         | inl once ↦ elim (repeats (branch ++ all_inner web.ends branch pairs paths)) [
           | inr met ↦ inr (Inner met.0, (are, lead, once, met.1))
-          | inl apart ↦ inl (record { below = branches_below web.nodes branch are; lead = lead; once = once; apart = apart })
+          | inl apart ↦ inl (record { below = branches_below web.nodes branch are; lead = lead; once = once; no_node_twice = apart })
         ]
       ]
 

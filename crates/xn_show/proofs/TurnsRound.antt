@@ -120,12 +120,12 @@ module _ (nodes : ℕ) (ends : List (ℕ × ℕ)) (next : ℕ → ℕ) (v : ℕ)
     listed_at : (e j : ℕ) → iterate next j d ≡ e → (e < n) × (tail_of ends e ≡ v)
     listed_at e j is = (
       (let below = iterate_below n next is_map.permutes j d d_in in omega (arith, below, is)),
-      ap (tail_of ends) (sym is) ∙ tail_walk n ends next is_map.permutes is_map.stays d d_in j ∙ d_at,
+      ap (tail_of ends) (sym is) ∙ tail_walk n ends next is_map.permutes is_map.same_node d d_in j ∙ d_at,
     )
 
     place : (e : ℕ) → e < n → tail_of ends e ≡ v → (j : ℕ) × (j < suc m) × (iterate next j d ≡ e)
     place e e_in e_at =
-        let reached = is_map.round d e d_in e_in (d_at ∙ sym e_at) in
+        let reached = is_map.one_ring d e d_in e_in (d_at ∙ sym e_at) in
         let found = within_round n next is_map.permutes d m comes.back reached.0 in
         (found.0, omega (arith, found.1), found.2 ∙ reached.1)
 

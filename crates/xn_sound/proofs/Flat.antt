@@ -240,10 +240,10 @@ module _ (nodes u w x : ℕ) (pre post : List (ℕ × ℕ)) (lone_pre : is_lone 
 
   -- and they follow each other
   turn : next b ≡ c
-  turn = elim (only_two (next b) (has.is_map.permutes.below b b_in) (has.is_map.stays b b_in ∙ tail_b)) [
+  turn = elim (only_two (next b) (has.is_map.permutes.below b b_in) (has.is_map.same_node b b_in ∙ tail_b)) [
     | inr there ↦ there
     | inl alone ↦
-        let there = has.is_map.round b c b_in c_in (tail_b ∙ sym tail_c) in
+        let there = has.is_map.one_ring b c b_in c_in (tail_b ∙ sym tail_c) in
         absurd (omega (arith, sym (stays_alone next b alone there.0) ∙ there.1))
   ]
 
@@ -264,7 +264,7 @@ module _ (nodes u w x : ℕ) (pre post : List (ℕ × ℕ)) (lone_pre : is_lone 
   turns y = stand_at from (2 * n) (stand_at to (2 * n + 1) next) y
 
   from_u : node_of ends from ≡ u
-  from_u = sym (has.is_map.stays before.0 before.1) ∙ ap (tail_of ends) before.2 ∙ tail_a
+  from_u = sym (has.is_map.same_node before.0 before.1) ∙ ap (tail_of ends) before.2 ∙ tail_a
 
   comes : IsInsertion nodes ends next from to more turns
   comes = record {

@@ -19,7 +19,7 @@ total-crosses ends edges ord orders [] = refl
 total-crosses ends edges ord orders (p ∷ ps) =
     let rest = total-crosses ends edges ord orders ps in
     elim (cases_Bool (has (ord p.0) p.1)) [
-      | inl crosses ↦ rw (crosses, orders.apart p.0 p.1 crosses) (rw crosses (omega (arith, rest)))
+      | inl crosses ↦ rw (crosses, orders.independent p.0 p.1 crosses) (rw crosses (omega (arith, rest)))
       | inr misses ↦ elim (cases_Bool (independent ends p.0 p.1)) [
         | inl free ↦ rw (misses, free) (rw misses (omega (arith, rest)))
         | inr bound ↦ rw (misses, bound) rest

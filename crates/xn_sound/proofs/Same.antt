@@ -76,7 +76,7 @@ module _ (ends : List (ℕ × ℕ)) (edges small : List ℕ) (rises : Rising sma
   same_if_low : (x y : ℕ) → has small x ≡ true → has small y ≡ true → x < y → has (less x) y ≡ has (ord x) y
   same_if_low x y x_in y_in low = elim (cases_Bool (independent ends x y)) [
     | inl free ↦ bits _ _ (total_zero-pair term (pairs_of ends small) x y zero_pairs (left_pair (independent ends) (each_two small) x y (two_in small rises x y x_in y_in low) free))
-    | inr bound ↦ both_false _ _ (λ h. both_ways _ bound (some.apart x y h)) (λ h. both_ways _ bound (all.apart x y h))
+    | inr bound ↦ both_false _ _ (λ h. both_ways _ bound (some.independent x y h)) (λ h. both_ways _ bound (all.independent x y h))
   ]
 
   less_both : (e f : ℕ) → has (less e) f ≡ has (less f) e
@@ -93,7 +93,7 @@ module _ (ends : List (ℕ × ℕ)) (edges small : List ℕ) (rises : Rising sma
 
   same_crossers : (e f : ℕ) → has small e ≡ true → has small f ≡ true → has (less e) f ≡ has (ord e) f
   same_crossers e f e_in f_in = elim (cases_order e f) [
-    | inl same ↦ both_false _ _ (λ h. not_of_itself ends e f (some.apart e f h) same) (λ h. not_of_itself ends e f (all.apart e f h) same)
+    | inl same ↦ both_false _ _ (λ h. not_of_itself ends e f (some.independent e f h) same) (λ h. not_of_itself ends e f (all.independent e f h) same)
     | inr (inl low) ↦ same_if_low e f e_in f_in low
     | inr (inr high) ↦ less_both e f ∙ same_if_low f e f_in e_in high ∙ ord_both f e
   ]

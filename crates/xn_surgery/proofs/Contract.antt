@@ -53,10 +53,10 @@ module _ (nodes left_nodes : ℕ) (ends left : List (ℕ × ℕ)) (next after st
       apart = λ i j i_in j_in same.
           start_apart i j i_in j_in (map.permutes.apart _ _ (is.starts_in i i_in) (is.starts_in j j_in) (sym (is.turns i i_in) ∙ ap start same ∙ is.turns j j_in));
     };
-    stays = λ j j_in. is.nodes_apart _ _ (tail_left_in (after j) (is.below j j_in)) (tail_left_in j j_in)
-        (sym (is.tails (after j) (is.below j j_in)) ∙ ap (tail_of ends) (is.turns j j_in) ∙ map.stays (start j) (is.starts_in j j_in) ∙ is.tails j j_in);
-    round = λ i j i_in j_in same.
-        let there = map.round (start i) (start j) (is.starts_in i i_in) (is.starts_in j j_in) (is.tails i i_in ∙ ap node same ∙ sym (is.tails j j_in)) in
+    same_node = λ j j_in. is.nodes_apart _ _ (tail_left_in (after j) (is.below j j_in)) (tail_left_in j j_in)
+        (sym (is.tails (after j) (is.below j j_in)) ∙ ap (tail_of ends) (is.turns j j_in) ∙ map.same_node (start j) (is.starts_in j j_in) ∙ is.tails j j_in);
+    one_ring = λ i j i_in j_in same.
+        let there = map.one_ring (start i) (start j) (is.starts_in i i_in) (is.starts_in j j_in) (is.tails i i_in ∙ ap node same ∙ sym (is.tails j j_in)) in
         let along = walks_on there.0 i i_in in
         (there.0, start_apart _ j along.0 j_in (along.1 ∙ there.1));
   }
@@ -221,7 +221,7 @@ module _ (nodes left_nodes : ℕ) (ends left : List (ℕ × ℕ)) (next after st
       go : (j : ℕ) → j < k → (i : ℕ) → i ≤ steps j → chain j i ≡ d → Joined left (tail_of left j) a → Near a (next d)
       go j j_in zero i_in at there =
           let P : ℕ → Type 0 = λ x. Joined left x a in
-          (after j, is.below j j_in, 0, omega arith, is.turns j j_in ∙ ap next at, subst P (sym (map_left.stays j j_in)) there)
+          (after j, is.below j j_in, 0, omega arith, is.turns j j_in ∙ ap next at, subst P (sym (map_left.same_node j j_in)) there)
       go j j_in (suc i) i_in at there =
           let before : Near a (chain j i) = (j, j_in, i, omega arith, refl, there) in
           let P : ℕ → Type 0 = λ x. Near a x in
@@ -235,7 +235,7 @@ module _ (nodes left_nodes : ℕ) (ends left : List (ℕ × ℕ)) (next after st
   near_walk : (a u v : ℕ) (darts : List ℕ) → (e : ℕ) → e < n → tail_of ends e ≡ u → Near a e → WalksTo ends u darts v → (f : ℕ) × (f < n) × (tail_of ends f ≡ v) × Near a f
   near_walk a u v [] e e_in at_u near walk = (e, e_in, at_u ∙ walk, near)
   near_walk a u v (d ∷ darts) e e_in at_u near walk =
-      let there = map.round e d e_in walk.0 (at_u ∙ sym walk.1) in
+      let there = map.one_ring e d e_in walk.0 (at_u ∙ sym walk.1) in
       let P : ℕ → Type 0 = λ x. Near a x in
       let at_d = subst P there.1 (near_reaches a e near there.0) in
       near_walk a (tail_of ends (reverse_of d)) v darts (reverse_of d) (reverse_below (length ends) d walk.0) refl (near_reverse a d at_d) walk.2
@@ -267,7 +267,7 @@ module _ (nodes left_nodes : ℕ) (ends left : List (ℕ × ℕ)) (next after st
   start_joined : (j i : ℕ) → j < k → Joined ends (node (tail_of left j)) (tail_of ends (chain j i))
   start_joined j i j_in =
       let P : ℕ → Type 0 = λ x. Joined ends x (tail_of ends (chain j i)) in
-      subst P (is.tails j j_in) (joined_along_face ends next map.permutes map.stays (start j) (chain j i) (is.starts_in j j_in) (i, refl))
+      subst P (is.tails j j_in) (joined_along_face ends next map.permutes map.same_node (start j) (chain j i) (is.starts_in j j_in) (i, refl))
 
   one_joined : (j : ℕ) → j < k → Joined ends (node (tail_of left j)) (node (tail_of left (reverse_of j)))
   one_joined j j_in =

@@ -172,7 +172,7 @@ module _ (nodes : ℕ) (ends more : List (ℕ × ℕ)) (a b : Corner) (next turn
   -- a dart of the node of a corner comes to the dart that stands there
   comes_to : (c : Corner) → IsCornerOf nodes ends c → (z : ℕ) → z < n → AtDart c (λ d. Reaches turn d z) → (p : ℕ) → p < x → tail_of ends p ≡ node_of ends c → Reaches turn p z
   comes_to (after d) h z z_in there p p_in same =
-      reaches_trans turn p d z (from_base p d (omega (arith, p_in)) (omega (arith, h)) (from_next p d p_in h (map.round p d p_in h same))) there
+      reaches_trans turn p d z (from_base p d (omega (arith, p_in)) (omega (arith, h)) (from_next p d p_in h (map.one_ring p d p_in h same))) there
   comes_to (lone w) h z z_in there p p_in same = absurd (no_dart_if_lone ends w h.1 p p_in same)
 
   at_first : (c : Corner) → IsCornerOf nodes ends c → AtDart c (λ d. Reaches (stand_at c x one) d x) → ((p q : ℕ) → p < n → Reaches (stand_at c x one) p q → Reaches turn p q) → AtDart c (λ d. Reaches turn d x)
@@ -204,7 +204,7 @@ module _ (nodes : ℕ) (ends more : List (ℕ × ℕ)) (a b : Corner) (next turn
   -- from a new dart on
   round_from_old : (p q : ℕ) → p < x → q < n → tail p ≡ tail q → Reaches turn p q
   round_from_old p q p_in q_in same = elim (cases_new q q_in) [
-    | inl old ↦ from_base p q (omega (arith, p_in)) q_in (from_next p q p_in old (map.round p q p_in old (sym (tail_old p p_in) ∙ same ∙ tail_old q old)))
+    | inl old ↦ from_base p q (omega (arith, p_in)) q_in (from_next p q p_in old (map.one_ring p q p_in old (sym (tail_old p p_in) ∙ same ∙ tail_old q old)))
     | inr (inl first) ↦
         let P : ℕ → Type 0 = λ z. Reaches turn p z in
         subst P (sym first) (to_x p p_in (sym (tail_old p p_in) ∙ same ∙ ap tail first ∙ tail_x))
@@ -247,7 +247,7 @@ module _ (nodes : ℕ) (ends more : List (ℕ × ℕ)) (a b : Corner) (next turn
 
   base_stays : (d : ℕ) → d < n → tail (base d) ≡ tail d
   base_stays d d_in = elim (cases_base d d_in) [
-    | inl old ↦ ap tail old.1 ∙ tail_old (next d) old.2 ∙ map.stays d old.0 ∙ sym (tail_old d old.0)
+    | inl old ↦ ap tail old.1 ∙ tail_old (next d) old.2 ∙ map.same_node d old.0 ∙ sym (tail_old d old.0)
     | inr (inl first) ↦ ap tail (first.1 ∙ sym first.0)
     | inr (inr second) ↦ ap tail (second.1 ∙ sym second.0)
   ]
@@ -266,8 +266,8 @@ module _ (nodes : ℕ) (ends more : List (ℕ × ℕ)) (a b : Corner) (next turn
       | inr (inr second) ↦ omega (arith, ap tail second, tail_y, v_in)
     ]);
     permutes = let P : ℕ → Type 0 = λ k. Permutes (2 * k) turn in subst P (sym size) turn_permutes;
-    stays = λ d d_in. ap tail (turn_is d (wide d d_in)) ∙ two_stays d (wide d d_in);
-    round = λ p q p_in q_in same. round p q (wide p p_in) (wide q q_in) same;
+    same_node = λ d d_in. ap tail (turn_is d (wide d d_in)) ∙ two_stays d (wide d d_in);
+    one_ring = λ p q p_in q_in same. round p q (wide p p_in) (wide q q_in) same;
   }
 
   -- the new segment out again

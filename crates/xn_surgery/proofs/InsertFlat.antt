@@ -144,10 +144,10 @@ module _ (nodes : ℕ) (ends more : List (ℕ × ℕ)) (d e : ℕ) (next turn : 
 
   face_joins : Reaches (face_step next) (next d) (next e) → Joined ends (tail_of ends d) (tail_of ends e)
   face_joins same =
-      let walk = joined_along_face ends next map.permutes map.stays (next d) (next e) (map.permutes.below d d_in) same in
+      let walk = joined_along_face ends next map.permutes map.same_node (next d) (next e) (map.permutes.below d d_in) same in
       let P : ℕ → Type 0 = λ z. Joined ends z (tail_of ends (next e)) in
       let Q : ℕ → Type 0 = λ z. Joined ends (tail_of ends d) z in
-      subst Q (map.stays e e_in) (subst P (map.stays d d_in) walk)
+      subst Q (map.same_node e e_in) (subst P (map.same_node d d_in) walk)
 
 pub insertion_splits : (nodes : ℕ) (ends more : List (ℕ × ℕ)) (a b : Corner) (next turn : ℕ → ℕ) → IsMap nodes ends next → IsInsertion nodes ends next a b more turn →
     InOneFace next a b → (face_count nodes more turn ≡ face_count nodes ends next + 1) × Joined ends (node_of ends a) (node_of ends b)

@@ -72,9 +72,9 @@ module _ (nodes : ℕ) (first second : List (ℕ × ℕ)) (f g beside : ℕ → 
 
   beside_stays : (d : ℕ) → d < n + k → tail (beside d) ≡ tail d
   beside_stays d d_in = elim (cases_half d d_in) [
-    | inl low ↦ ap tail (is.low d low) ∙ tail_low (f d) (one.permutes.below d low) ∙ one.stays d low ∙ sym (tail_low d low)
+    | inl low ↦ ap tail (is.low d low) ∙ tail_low (f d) (one.permutes.below d low) ∙ one.same_node d low ∙ sym (tail_low d low)
     | inr high ↦
-        ap tail (ap beside high.2 ∙ is.high high.0 high.1) ∙ tail_high (g high.0) ∙ two.stays high.0 high.1 ∙ sym (tail_high high.0) ∙ ap tail (sym high.2)
+        ap tail (ap beside high.2 ∙ is.high high.0 high.1) ∙ tail_high (g high.0) ∙ two.same_node high.0 high.1 ∙ sym (tail_high high.0) ∙ ap tail (sym high.2)
   ]
 
   both_in : EndsIn nodes both
@@ -82,11 +82,11 @@ module _ (nodes : ℕ) (first second : List (ℕ × ℕ)) (f g beside : ℕ → 
 
   round_low : (d e : ℕ) → d < n → e < n → tail d ≡ tail e → Reaches beside d e
   round_low d e d_in e_in same =
-      (rotations.low d e d_in e_in).1 (one.round d e d_in e_in (sym (tail_low d d_in) ∙ same ∙ tail_low e e_in))
+      (rotations.low d e d_in e_in).1 (one.one_ring d e d_in e_in (sym (tail_low d d_in) ∙ same ∙ tail_low e e_in))
 
   round_high : (d e : ℕ) → d < k → e < k → tail (n + d) ≡ tail (n + e) → Reaches beside (n + d) (n + e)
   round_high d e d_in e_in same =
-      (rotations.high d e d_in e_in).1 (two.round d e d_in e_in (sym (tail_high d) ∙ same ∙ tail_high e))
+      (rotations.high d e d_in e_in).1 (two.one_ring d e d_in e_in (sym (tail_high d) ∙ same ∙ tail_high e))
 
   -- faces
   faces_beside : IsBeside n k (face_step f) (face_step g) (face_step beside)
@@ -140,8 +140,8 @@ module _ (nodes : ℕ) (first second : List (ℕ × ℕ)) (f g beside : ℕ → 
     map_apart = record {
       ends_in = both_in;
       permutes = let P : ℕ → Type 0 = λ m. Permutes m beside in subst P (sym size) rotations.permutes;
-      stays = λ d d_in. beside_stays d (omega (arith, d_in, size));
-      round = λ d e d_in e_in same. elim (cases_half d (omega (arith, d_in, size))) [
+      same_node = λ d d_in. beside_stays d (omega (arith, d_in, size));
+      one_ring = λ d e d_in e_in same. elim (cases_half d (omega (arith, d_in, size))) [
         | inl d_low ↦ elim (cases_half e (omega (arith, e_in, size))) [
           | inl e_low ↦ round_low d e d_low e_low same
           | inr e_high ↦ absurd (apart d e_high.0 d_low e_high.1 (same ∙ ap tail e_high.2))
@@ -218,8 +218,8 @@ module _ (nodes : ℕ) (first second : List (ℕ × ℕ)) (f g beside : ℕ → 
     map_joined = record {
       ends_in = both_in;
       permutes = let P : ℕ → Type 0 = λ m. Permutes m after in subst P (sym size) after_permutes;
-      stays = λ d d_in. after_stays d (omega (arith, d_in, size));
-      round = λ d e d_in e_in same.
+      same_node = λ d d_in. after_stays d (omega (arith, d_in, size));
+      one_ring = λ d e d_in e_in same.
           let d_wide : d < n + k = omega (arith, d_in, size) in
           let e_wide : e < n + k = omega (arith, e_in, size) in
           elim (cases_half d d_wide) [

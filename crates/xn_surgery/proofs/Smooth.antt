@@ -33,7 +33,7 @@ module _ (rest p q : ℕ) (ends left : List (ℕ × ℕ)) (next after : ℕ → 
   v_in = tail_in (suc rest) ends map.ends_in p is.first_in
 
   q_at_v : tail_of ends q ≡ v
-  q_at_v = sym (ap (tail_of ends) is.to_second) ∙ map.stays p is.first_in
+  q_at_v = sym (ap (tail_of ends) is.to_second) ∙ map.same_node p is.first_in
 
   r_half : r / 2 ≡ q / 2
   r_half = half_reverse q

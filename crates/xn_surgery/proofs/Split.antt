@@ -74,7 +74,7 @@ module _ (nodes a b : ℕ) (ends split : List (ℕ × ℕ)) (next after : ℕ �
   permutes = Permutes-splice n c e next after map.permutes splice to_a.1 to_b.1
 
   ring : Reaches next a b
-  ring = map.round a b is.first_in is.second_in is.one_node
+  ring = map.one_ring a b is.first_in is.second_in is.one_node
 
   cuts : CutsRing n a b next after
   cuts = cuts_ring n a b c e next after map.permutes splice is.first_in is.second_in to_a.1 to_b.1 to_a.2 to_b.2 is.differ ring
@@ -104,7 +104,7 @@ module _ (nodes a b : ℕ) (ends split : List (ℕ × ℕ)) (next after : ℕ �
   tail_along d d_in zero = (d_in, refl)
   tail_along d d_in (suc k) =
       let so_far = tail_along d d_in k in
-      (map.permutes.below _ so_far.0, map.stays _ so_far.0 ∙ so_far.1)
+      (map.permutes.below _ so_far.0, map.same_node _ so_far.0 ∙ so_far.1)
 
   tail_reaches : (d f : ℕ) → d < n → Reaches next d f → tail_of ends f ≡ tail_of ends d
   tail_reaches d f d_in there = ap (tail_of ends) (sym there.1) ∙ (tail_along d d_in there.0).1
@@ -118,10 +118,10 @@ module _ (nodes a b : ℕ) (ends split : List (ℕ × ℕ)) (next after : ℕ �
   ]
 
   tail_c : tail_of ends c ≡ v
-  tail_c = sym (map.stays c to_a.1) ∙ ap (tail_of ends) to_a.2
+  tail_c = sym (map.same_node c to_a.1) ∙ ap (tail_of ends) to_a.2
 
   tail_e : tail_of ends e ≡ v
-  tail_e = sym (map.stays e to_b.1) ∙ ap (tail_of ends) to_b.2 ∙ sym is.one_node
+  tail_e = sym (map.same_node e to_b.1) ∙ ap (tail_of ends) to_b.2 ∙ sym is.one_node
 
   c_away : Reaches after a c → ⊥
   c_away there = cuts.apart (reaches_trans after a c b there (1, turn_a c to_a.1 to_a.2))
@@ -131,10 +131,10 @@ module _ (nodes a b : ℕ) (ends split : List (ℕ × ℕ)) (next after : ℕ �
 
   old_stays : (d : ℕ) → d < n → tail_of ends (after d) ≡ tail_of ends d
   old_stays d d_in = elim (cases_eq (next d) a) [
-    | inl at_a ↦ ap (tail_of ends) (turn_a d d_in at_a) ∙ sym is.one_node ∙ ap (tail_of ends) (sym at_a) ∙ map.stays d d_in
+    | inl at_a ↦ ap (tail_of ends) (turn_a d d_in at_a) ∙ sym is.one_node ∙ ap (tail_of ends) (sym at_a) ∙ map.same_node d d_in
     | inr not_a ↦ elim (cases_eq (next d) b) [
-      | inl at_b ↦ ap (tail_of ends) (turn_b d d_in at_b) ∙ is.one_node ∙ ap (tail_of ends) (sym at_b) ∙ map.stays d d_in
-      | inr not_b ↦ ap (tail_of ends) (turn_other d d_in not_a not_b) ∙ map.stays d d_in
+      | inl at_b ↦ ap (tail_of ends) (turn_b d d_in at_b) ∙ is.one_node ∙ ap (tail_of ends) (sym at_b) ∙ map.same_node d d_in
+      | inr not_b ↦ ap (tail_of ends) (turn_other d d_in not_a not_b) ∙ map.same_node d d_in
     ]
   ]
 
@@ -164,11 +164,11 @@ module _ (nodes a b : ℕ) (ends split : List (ℕ × ℕ)) (next after : ℕ �
           let old : tail_of ends d ≡ tail_of ends f = sym away.1 ∙ same ∙ both.1 in
           elim (cases_eq (tail_of ends d) v) [
             | inl at_v ↦
-                let to_d = cuts.rest d d_in (map.round a d is.first_in d_in (sym at_v)) away.0 in
-                let to_f = cuts.rest f f_in (map.round a f is.first_in f_in (sym at_v ∙ old)) both.0 in
+                let to_d = cuts.rest d d_in (map.one_ring a d is.first_in d_in (sym at_v)) away.0 in
+                let to_f = cuts.rest f f_in (map.one_ring a f is.first_in f_in (sym at_v ∙ old)) both.0 in
                 reaches_trans after d b f (reaches_back n after permutes b d is.second_in to_d) to_f
             | inr elsewhere ↦
-                let there = map.round d f d_in f_in old in
+                let there = map.one_ring d f d_in f_in old in
                 let free = walk-others n c e next after map.permutes splice d d_in
                 (λ to_c. elsewhere (sym (tail_reaches d c d_in to_c) ∙ tail_c)) (λ to_e. elsewhere (sym (tail_reaches d e d_in to_e) ∙ tail_e)) in
                 (there.0, free there.0 ∙ there.1)
@@ -188,8 +188,8 @@ module _ (nodes a b : ℕ) (ends split : List (ℕ × ℕ)) (next after : ℕ �
   map_split = record {
     ends_in = split_in;
     permutes = let P : ℕ → Type 0 = λ k. Permutes (2 * k) after in subst P (sym is.all) permutes;
-    stays = λ d d_in. stays d (old_in d d_in);
-    round = λ d f d_in f_in same. round d f (old_in d d_in) (old_in f f_in) same;
+    same_node = λ d d_in. stays d (old_in d d_in);
+    one_ring = λ d f d_in f_in same. round d f (old_in d d_in) (old_in f f_in) same;
   }
 
   both_in : EndsIn (suc nodes) (split ++ (v, nodes) ∷ [])

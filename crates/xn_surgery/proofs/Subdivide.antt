@@ -156,7 +156,7 @@ module _ (nodes s : ℕ) (ends more : List (ℕ × ℕ)) (next after : ℕ → �
   round c d c_in d_in same = elim (cases_more c c_in) [
     | inl old_c ↦ elim (cases_more d d_in) [
       | inl old_d ↦
-          let there = map.round old_c.0 old_d.0 old_c.1 old_d.1 (sym (tail_now old_c.0 old_c.1) ∙ ap tail old_c.2 ∙ same ∙ ap tail (sym old_d.2) ∙ tail_now old_d.0 old_d.1) in
+          let there = map.one_ring old_c.0 old_d.0 old_c.1 old_d.1 (sym (tail_now old_c.0 old_c.1) ∙ ap tail old_c.2 ∙ same ∙ ap tail (sym old_d.2) ∙ tail_now old_d.0 old_d.1) in
           (there.0, ap (iterate after there.0) (sym old_c.2) ∙ (walks_now there.0 old_c.0 old_c.1).1 ∙ ap now there.1 ∙ old_d.2)
       | inr (inl d_m) ↦ absurd (not_new old_c.0 c old_c.1 old_c.2 (same ∙ ap tail d_m ∙ tail_m))
       | inr (inr d_x) ↦ absurd (not_new old_c.0 c old_c.1 old_c.2 (same ∙ ap tail d_x ∙ tail_x))
@@ -181,13 +181,13 @@ module _ (nodes s : ℕ) (ends more : List (ℕ × ℕ)) (next after : ℕ → �
       | inr (inr at_x) ↦ omega (arith, ap tail at_x, tail_x)
     ]);
     permutes = record { below = below; apart = after_apart };
-    stays = λ d d_in. elim (cases_more d d_in) [
+    same_node = λ d d_in. elim (cases_more d d_in) [
       | inl old ↦
-          ap tail (step old.0 d old.2 old.1) ∙ tail_now (next old.0) (map.permutes.below old.0 old.1) ∙ map.stays old.0 old.1 ∙ sym (tail_now old.0 old.1) ∙ ap tail old.2
+          ap tail (step old.0 d old.2 old.1) ∙ tail_now (next old.0) (map.permutes.below old.0 old.1) ∙ map.same_node old.0 old.1 ∙ sym (tail_now old.0 old.1) ∙ ap tail old.2
       | inr (inl at_m) ↦ ap tail (ap after at_m ∙ is.turns_new) ∙ tail_x ∙ sym tail_m ∙ ap tail (sym at_m)
       | inr (inr at_x) ↦ ap tail (ap after at_x ∙ is.turns_back) ∙ tail_m ∙ sym tail_x ∙ ap tail (sym at_x)
     ];
-    round = round;
+    one_ring = round;
   }
 
   -- the chains: the divided segment has two steps each way

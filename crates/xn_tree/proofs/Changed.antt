@@ -77,7 +77,7 @@ module _ (v : Situation) (given : IsGiven v) where
       go (Some x) is some = (
         given.state.rises (min e f) (max e f) x is,
         given.state.below (min e f) (max e f) x is,
-        given.state.apart (min e f) (max e f) x is,
+        given.state.independent (min e f) (max e f) x is,
       )
 
   pub undecided_given : (e f k : ℕ) → IsSome (value_in (state_of v) e f) → has ((state_of v).placed e) f ≡ false →

@@ -48,7 +48,7 @@ unfolding IsDistinct
 empty_is_state g = record {
   rises = λ e f x is. cc;
   below = λ e f x is. cc;
-  apart = λ e f x is. cc;
+  independent = λ e f x is. cc;
   no_repeats = λ e. tt;
   crosses = λ e f h. absurd (both_ways false refl h);
 }
@@ -80,7 +80,7 @@ module _ (g : Graph) (s : State) (is_state : IsState g s) (e f : ℕ) (entry : O
   entry_state rises below apart crosses = record {
     rises = told (λ a b. a < b) rises is_state.rises;
     below = told (λ a b. b < length g.ends) below is_state.below;
-    apart = told (Independent g.ends) apart is_state.apart;
+    independent = told (Independent g.ends) apart is_state.independent;
     no_repeats = is_state.no_repeats;
     crosses = crosses;
   }
@@ -127,7 +127,7 @@ module _ (g : Graph) (s : State) (is_state : IsState g s) (e : ℕ) (xs : List �
   list_state distinct crosses = record {
     rises = is_state.rises;
     below = is_state.below;
-    apart = is_state.apart;
+    independent = is_state.independent;
     no_repeats = λ a. elim (cases_Bool (eqb a e)) [
       | inl same ↦ rw same distinct
       | inr other ↦ rw other (is_state.no_repeats a)
