@@ -2,7 +2,7 @@
 use Rattle.std.proofs.Common.{◌≡◌, ℕ, inl, inr, List, Option, None, Some, IfSome, sym, subst, ◌∙◌}
 use Rattle.std.specs.Io.KnownBytes.{Appends}
 use Rattle.xn_io.specs.Input.{Files}
-use Rattle.xn_words.specs.Request.{Request}
+use Rattle.xn_command.specs.Request.{Request}
 use Rattle.xn_app.specs.Ends.{Finishes, Ran}
 use Rattle.xn_app.specs.Outcome.{ComesTo, Outcome}
 use Rattle.xn_app.specs.Status.{IsVerdictEnd}

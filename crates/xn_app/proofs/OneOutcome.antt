@@ -6,7 +6,7 @@ use Rattle.xn_gml.specs.Meaning.{Found, graph_of_text}
 use Rattle.xn_gml.specs.declared.errors.GmlErr.{GmlErr}
 use Rattle.xn_io.specs.Input.{Files, bytes_of}
 use Rattle.xn_kinds.specs.declared.flaws.Flaw.{Flaw}
-use Rattle.xn_words.specs.Request.{Request, check, draw, examine}
+use Rattle.xn_command.specs.Request.{Request, check, draw, examine}
 use Rattle.xn_app.specs.Ends.{Ran, Wrote}
 use Rattle.xn_app.specs.Outcome.{Checked, ComesTo, Drawn, IsJudged, OnGraph, Outcome, outcome_of}
 use Rattle.xn_app.specs.Status.{IsAside}

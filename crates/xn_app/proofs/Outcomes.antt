@@ -9,7 +9,7 @@ use Rattle.xn_gml.specs.declared.errors.GmlErr.{GmlErr}
 use Rattle.xn_gml.specs.declared.errors.GmlErr.TheVariants as gml
 use Rattle.xn_kinds.specs.declared.flaws.Flaw.{Flaw}
 use Rattle.xn_proof.specs.Refusal.{flaw_line}
-use Rattle.xn_words.specs.Request.{Request, check, examine}
+use Rattle.xn_command.specs.Request.{Request, check, examine}
 use Rattle.xn_app.specs.Ends.{Ran, SaysBounds, SaysDrawing, Wrote}
 use Rattle.xn_app.specs.Outcome.{Checked, ComesTo, Examined, IsJudged, OnGraph, Outcome, outcome_of, refused_graph}
 use Rattle.xn_app.specs.Output.{accepted_line, seen_line}

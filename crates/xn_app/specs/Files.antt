@@ -4,7 +4,7 @@ use Rattle.xn_gml.specs.Meaning.{Found, graph_of_text}
 use Rattle.xn_gml.specs.declared.errors.GmlErr.{GmlErr}
 use Rattle.xn_io.specs.Causes.{Rose}
 use Rattle.xn_io.specs.Input.{Files, IsLonger, bytes_of}
-use Rattle.xn_words.specs.Request.{Request, check, draw, examine}
+use Rattle.xn_command.specs.Request.{Request, check, draw, examine}
 use Rattle.xn_app.specs.Outcome.{refused_graph}
 use Rattle.xn_app.specs.declared.status.Limit.TheVariants.{Bytes}
 use Rattle.xn_app.specs.declared.status.Status.{Status}

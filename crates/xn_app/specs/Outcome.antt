@@ -9,7 +9,7 @@ use Rattle.xn_io.specs.Input.{Files, bytes_of}
 use Rattle.xn_kinds.specs.declared.flaws.Flaw.{Flaw}
 use Rattle.xn_proof.specs.Refusal.{flaw_line}
 use Rattle.xn_show.specs.Text.{show_text}
-use Rattle.xn_words.specs.Request.{Request, check, draw, examine}
+use Rattle.xn_command.specs.Request.{Request, check, draw, examine}
 use Rattle.xn_app.specs.Output.{accepted_line, seen_line}
 use Rattle.xn_app.specs.Verdict.{Verdict}
 use Rattle.xn_app.specs.declared.status.Limit.TheVariants.{Edges, Nodes}

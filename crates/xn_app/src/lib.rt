@@ -11,7 +11,7 @@ mod top_call;
 
 pub use status::{Limit, Status};
 pub use top_call::top;
-pub use xn_words::{Command, WordsErr, read_words};
+pub use xn_command::{Command, WordsErr, read_words};
 
 #[cfg(test)]
 mod tests;

@@ -2,8 +2,8 @@
 ghost use Rattle.std.specs.Prelude.{◌≡◌, ◌⊎◌, List, ℕ, Some, IfOk, IfErr, IfSome, IfNone};
 ghost use Rattle.xn_io.specs.Causes.{Rose};
 ghost use Rattle.xn_io.specs.Input.{bytes_of};
-ghost use Rattle.xn_words.specs.Gives.{request_of_command, words_request};
-ghost use Rattle.xn_words.specs.Request.{check, examine};
+ghost use Rattle.xn_command.specs.Gives.{request_of_command, words_request};
+ghost use Rattle.xn_command.specs.Request.{check, examine};
 ghost use Rattle.xn_app.specs.Ends.{Finishes, Quits, Ran, SaysBounds, SaysDrawing};
 ghost use Rattle.xn_app.specs.Files.{IsBegun, IsFine, Shows, answer_of};
 ghost use Rattle.xn_app.specs.Outcome.{ComesTo, Outcome};
@@ -15,7 +15,7 @@ use crate::status::Status;
 use std::alloc::Global;
 use xn_check::laws::{accepted_bounds, one_outcome};
 use xn_io::{Input, Sink, write_all};
-use xn_words::{Command, WordsErr, read_words};
+use xn_command::{Command, WordsErr, read_words};
 
 /// Does all that the program does: reads the words, reads the files that they name, judges the answer, and writes what
 /// belongs to that.

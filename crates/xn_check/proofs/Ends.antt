@@ -76,5 +76,5 @@ pub accepted_text_bounds : AcceptedProofsBound → AcceptedTextBounds
 accepted_text_bounds bounds g loops text lower upper is_graph verdict =
     let p = accepted_has_proof g loops text lower upper verdict in (
       bounds g lower p.rows p.tree is_graph p.accepted,
-      (order_of g p.lists, at p.next, p.drawing.drawing, omega (arith, p.crossings)),
+      (_, (order_of g p.lists, at p.next, p.drawing.drawing, refl), omega (arith, p.crossings)),
     )

@@ -16,7 +16,7 @@ use Rattle.xn_kura.proofs.Path.{count_at, darts, out, out_facts}
 use Rattle.xn_kura.proofs.Tally.{count-le_count_if, count_if, count_if-append}
 use Rattle.xn_kura.proofs.Turned.{distinct-append}
 use Rattle.xn_kura.proofs.UsedPaths.{all_darts, count_all, has-all_darts, used_in}
-use Rattle.xn_kura.specs.Straight.{dart_count}
+use Rattle.xn_model.specs.Loose.{dart_count}
 
 -- how many ends of the pairs are the node i
 abbrev pub degree_in : List (ℕ × ℕ) → ℕ → ℕ

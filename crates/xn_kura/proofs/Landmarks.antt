@@ -16,8 +16,8 @@ use Rattle.xn_kura.proofs.Excludes.{no_flat_five, no_flat_three_three}
 use Rattle.xn_kura.specs.Laws.{KuratowskiGraphs}
 
 least_one : (g : Graph) → ((next : ℕ → ℕ) → ¬ IsFlat g next) → IsAtLeast g 1
-least_one g never ord next drawing = elim (cases_eq (crossing_count g ord) 0) [
-  | inl none ↦ absurd (never next (flat_where_none_cross g ord next drawing none))
+least_one g never c drawing = elim (cases_eq c 0) [
+  | inl none ↦ absurd (never drawing.1 (flat_where_none_cross g drawing.0 drawing.1 drawing.2 (drawing.3 ∙ none)))
   | inr some ↦ omega (arith, some)
 ]
 

@@ -16,7 +16,8 @@ use Rattle.xn_kura.proofs.Tally.{count-le_cover, distinct-le}
 use Rattle.xn_kura.proofs.Walking.{around}
 use Rattle.xn_kura.specs.Flaws.{begins_at, goes_to, path_at}
 use Rattle.xn_kura.specs.Kinds.{AreNodesWith, ArePartedBy}
-use Rattle.xn_kura.specs.Straight.{IsStraightBetween, dart_count, path_in}
+use Rattle.xn_kura.specs.Straight.{IsStraightBetween, path_in}
+use Rattle.xn_model.specs.Loose.{dart_count}
 
 -- ---- one more element
 

@@ -13,7 +13,8 @@ use Rattle.xn_kura.proofs.Path.{out, out_facts}
 use Rattle.xn_kura.proofs.StubCounts.{count-le}
 use Rattle.xn_kura.proofs.Tally.{distinct-le}
 use Rattle.xn_kura.proofs.Walking.{inner_step, step}
-use Rattle.xn_kura.specs.Straight.{AreStubs, IsStraight, dart_count, dart_from}
+use Rattle.xn_kura.specs.Straight.{AreStubs, IsStraight, dart_from}
+use Rattle.xn_model.specs.Loose.{dart_count}
 
 -- an element that is there is the same by any default
 pub there : (xs : List ℕ) (i d : ℕ) → i < length xs → get_or xs i d ≡ at xs i

@@ -22,7 +22,8 @@ use Rattle.xn_kura.proofs.UsedPaths.{has-concat, inner_at, lead_at, path_distinc
 use Rattle.xn_kura.specs.Flaws.{begins_at, goes_to, path_at}
 use Rattle.xn_kura.specs.Kinds.{AreNodesWith, ArePathsFor, UsesAll}
 use Rattle.xn_kura.specs.Laws.{AreSomePaths, IsPathOrTurned}
-use Rattle.xn_kura.specs.Straight.{IsStraight, IsStraightBetween, IsStraightBy, dart_count, dart_from}
+use Rattle.xn_kura.specs.Straight.{IsStraight, IsStraightBetween, IsStraightBy, dart_from}
+use Rattle.xn_model.specs.Loose.{dart_count}
 
 -- ---- the first and the last dart of a path
 

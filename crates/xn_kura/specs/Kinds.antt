@@ -7,7 +7,8 @@ use Rattle.xn_kinds.specs.Row.{EvidenceHolds}
 use Rattle.xn_kinds.specs.declared.rows.Evidence.{Evidence}
 use Rattle.xn_kinds.specs.declared.rows.Evidence.TheVariants.{Five, ThreeThree, Extension}
 use Rattle.xn_kura.specs.Flaws.{HasAKind, begins_at, goes_to, path_at}
-use Rattle.xn_kura.specs.Straight.{IsStraightBetween, dart_count}
+use Rattle.xn_kura.specs.Straight.{IsStraightBetween}
+use Rattle.xn_model.specs.Loose.{dart_count}
 
 -- the paths of an evidence of either kind
 abbrev pub paths_of : Evidence → List (List ℕ)

@@ -5,14 +5,11 @@ use Rattle.std.specs.List.{IsDistinct}
 use Rattle.xn_model.specs.Evidence.{LeadsTo, inner_nodes}
 use Rattle.xn_model.specs.Graph.{Graph, ends_at}
 use Rattle.xn_model.specs.Lists.{at, has}
+use Rattle.xn_model.specs.Loose.{dart_count}
 use Rattle.xn_model.specs.Map.{tail_of}
 use Rattle.xn_model.specs.Permutation.{count_below}
 use Rattle.xn_kura.specs.declared.stubs.Stubs.{Stubs}
 use Rattle.xn_kura.specs.declared.traces.Trace.{Trace}
-
--- the number of darts at a node
-abbrev pub dart_count : List (ℕ × ℕ) → ℕ → ℕ
-dart_count ends v = count_below (2 * length ends) (λ d. tail_of ends d == v)
 
 -- this many of the first darts are at each node, and these are the first and the last of them
 pub record AreStubs (web : Graph) (darts : ℕ) (degree first last : List ℕ) : Type 0 where

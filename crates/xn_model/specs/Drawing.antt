@@ -28,13 +28,17 @@ pub record IsListedDrawing (g : Graph) (lists : List (List ℕ)) (next : List �
   pub next_fits : length next ≡ 2 * length (web_of g (edges_of g) (order_of g lists)).ends
   pub drawing : IsDrawing g (order_of g lists) (at next)
 
+-- some drawing has c crossings
+abbrev pub HasDrawingWith : Graph → ℕ → Type 0
+HasDrawingWith g c = (ord : ℕ → List ℕ) × (next : ℕ → ℕ) × IsDrawing g ord next × (crossing_count g ord ≡ c)
+
 -- every drawing has at least k crossings
 abbrev pub IsAtLeast : Graph → ℕ → Type 0
-IsAtLeast g k = (ord : ℕ → List ℕ) (next : ℕ → ℕ) → IsDrawing g ord next → k ≤ crossing_count g ord
+IsAtLeast g k = (c : ℕ) → HasDrawingWith g c → k ≤ c
 
 -- some drawing has at most k crossings
 abbrev pub IsAtMost : Graph → ℕ → Type 0
-IsAtMost g k = (ord : ℕ → List ℕ) × (next : ℕ → ℕ) × IsDrawing g ord next × (crossing_count g ord ≤ k)
+IsAtMost g k = (c : ℕ) × HasDrawingWith g c × (c ≤ k)
 
 -- k is the crossing number
 pub record IsCrossingNumber (g : Graph) (k : ℕ) : Type 0 where

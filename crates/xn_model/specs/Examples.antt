@@ -1,9 +1,11 @@
 -- Worked examples of the definitions.
 use Rattle.std.specs.Prelude.{◌≡◌, ℕ, List, [], ◌∷◌}
+use Rattle.xn_model.specs.Cycles.{IsCycle}
 use Rattle.xn_model.specs.Drawing.{CrossesAt, IsAtMost, IsListedDrawing, order_of}
 use Rattle.xn_model.specs.Graph.{Graph, edges_of, pairs_of, pair_count_of}
 use Rattle.xn_model.specs.Lists.{at}
-use Rattle.xn_model.specs.Limit.{node_limit}
+use Rattle.xn_model.specs.Limit.{IsBelowLimit, node_limit}
+use Rattle.xn_model.specs.Loose.{IsLoose, IsRoute, MeetsOnce}
 use Rattle.xn_model.specs.Map.{MeetsEuler, IsFlat, face_count, component_count}
 use Rattle.xn_model.specs.Orders.{crossing_count}
 use Rattle.xn_model.specs.Web.{web_of}
@@ -79,3 +81,51 @@ pub record TwoLoneNodes : Type 0 where
   pub faces : face_count 2 [] (at []) ≡ 2
   pub components : component_count 2 [] ≡ 2
   pub flat : MeetsEuler 2 [] (at [])
+
+-- two nodes and an edge, which crosses itself once
+abbrev pub one_edge : Graph
+one_edge = record { nodes = 2; ends = (0, 1) ∷ [] }
+
+abbrev pub curled_web : Graph
+curled_web = record { nodes = 3; ends = (0, 2) ∷ (2, 2) ∷ (2, 1) ∷ [] }
+
+abbrev pub curled_turns : List ℕ
+curled_turns = 0 ∷ 3 ∷ 4 ∷ 2 ∷ 1 ∷ 5 ∷ []
+
+-- the same, but that the edge touches itself
+abbrev pub bent_turns : List ℕ
+bent_turns = 0 ∷ 2 ∷ 3 ∷ 4 ∷ 1 ∷ 5 ∷ []
+
+-- the edge goes round its loop; it is no loose drawing where the loop is left out, or where it touches itself
+pub record CurledEdge : Type 0 where
+  pub loose : IsLoose one_edge (0 ∷ []) 1 curled_web (at curled_turns) (λ e. 0 ∷ 2 ∷ 4 ∷ [])
+  pub twice : ¬ (MeetsOnce curled_web.ends (0 ∷ 2 ∷ 4 ∷ []))
+  pub left_out : ¬ (IsLoose one_edge (0 ∷ []) 1 curled_web (at curled_turns) (λ e. 0 ∷ 4 ∷ []))
+  pub touching : ¬ (IsLoose one_edge (0 ∷ []) 1 curled_web (at bent_turns) (λ e. 0 ∷ 2 ∷ 4 ∷ []))
+
+-- a triangle with a node within and a node without
+abbrev pub parted_web : Graph
+parted_web = record { nodes = 5; ends = (0, 1) ∷ (1, 2) ∷ (2, 0) ∷ (0, 3) ∷ (1, 4) ∷ [] }
+
+abbrev pub parted_turns : List ℕ
+parted_turns = 5 ∷ 2 ∷ 8 ∷ 4 ∷ 3 ∷ 6 ∷ 0 ∷ 7 ∷ 1 ∷ 9 ∷ []
+
+-- from the one to the other over one segment
+pub record PartedNodes : Type 0 where
+  pub flat_map : IsFlat parted_web (at parted_turns)
+  pub route : IsRoute parted_web.ends (at parted_turns) 3 (0 ∷ []) 4
+
+-- the triangle of this web is a cycle, and two parallel segments are one; no cycle has the segment that hangs at it
+pub record SmallCycles : Type 0 where
+  pub triangle : IsCycle parted_web.ends (0 ∷ 2 ∷ 4 ∷ [])
+  pub parallel : IsCycle ((0, 1) ∷ (0, 1) ∷ []) (0 ∷ 3 ∷ [])
+  pub no_way_back : ¬ (IsCycle parted_web.ends (6 ∷ 7 ∷ []))
+
+-- no node: its limit is that of one round without pairs
+abbrev pub nothing : Graph
+nothing = record { nodes = 0; ends = [] }
+
+pub record LimitOfNothing : Type 0 where
+  pub limit : node_limit (pair_count_of nothing) 0 ≡ 3
+  pub below : IsBelowLimit nothing 2
+  pub not_below : ¬ (IsBelowLimit nothing 3)

@@ -1,8 +1,7 @@
 -- The node limit: how many nodes the search opens at most.
-use Rattle.std.specs.Prelude.{ℕ, zero, suc, ◌+◌, ◌*◌, ◌^◌, ◌<◌, List}
-use Rattle.xn_model.specs.Drawing.{IsDrawing}
+use Rattle.std.specs.Prelude.{ℕ, zero, suc, ◌+◌, ◌*◌, ◌^◌, ◌<◌, ◌≤◌}
+use Rattle.xn_model.specs.Drawing.{HasDrawingWith}
 use Rattle.xn_model.specs.Graph.{Graph, pair_count_of}
-use Rattle.xn_model.specs.Orders.{crossing_count}
 
 -- the paths of round t have at most p pair nodes, 2t place nodes and a leaf, for each choice of t crossing pairs and their positions
 abbrev pub limit_of_round : ℕ → ℕ → ℕ
@@ -19,4 +18,8 @@ node_limit p c = limit_up_to p (suc c)
 
 -- n is below the node limit, whichever drawing gives the number of crossings
 abbrev pub IsBelowLimit : Graph → ℕ → Type 0
-IsBelowLimit g n = (ord : ℕ → List ℕ) (next : ℕ → ℕ) → IsDrawing g ord next → n < node_limit (pair_count_of g) (crossing_count g ord)
+IsBelowLimit g n = (c : ℕ) → HasDrawingWith g c → n < node_limit (pair_count_of g) c
+
+-- n is at most the node limit, whichever drawing gives the number of crossings
+abbrev pub IsWithinLimit : Graph → ℕ → Type 0
+IsWithinLimit g n = (c : ℕ) → HasDrawingWith g c → n ≤ node_limit (pair_count_of g) c

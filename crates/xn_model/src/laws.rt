@@ -1,7 +1,7 @@
 //! Laws that show that the definitions mean what they should. Each is the contract of a function with an empty body.
 ghost use Rattle.xn_model.specs.ComponentLaws.{ComponentsAreByWalks, LabelsAreByWalks};
-ghost use Rattle.xn_model.specs.Examples.{K4IsFlat, K4OnTorus, K5WithOneCrossing, PairsOfK33, TwoLoneNodes};
-ghost use Rattle.xn_model.specs.Laws.{LeastFalls, AtMostRises, BoundsMeet, OneCrossingNumber};
+ghost use Rattle.xn_model.specs.Examples.{CurledEdge, K4IsFlat, K4OnTorus, K5WithOneCrossing, LimitOfNothing, PairsOfK33, PartedNodes, SmallCycles, TwoLoneNodes};
+ghost use Rattle.xn_model.specs.Laws.{LeastFalls, AtMostRises, BelowIsWithin, BoundsMeet, LimitFalls, OneCrossingNumber};
 
 /// Lower and upper bounds of the crossing number agree with each other.
 pub fn bounds_of_the_crossing_number()
@@ -9,6 +9,8 @@ pub fn bounds_of_the_crossing_number()
     ensures rises { AtMostRises }
     ensures meet { BoundsMeet }
     ensures one { OneCrossingNumber }
+    ensures limits { LimitFalls }
+    ensures within { BelowIsWithin }
 {}
 
 /// The definitions on worked examples, by computation.
@@ -18,6 +20,10 @@ pub fn worked_examples()
     ensures k5 { K5WithOneCrossing }
     ensures k33 { PairsOfK33 }
     ensures lone { TwoLoneNodes }
+    ensures curled { CurledEdge }
+    ensures parted { PartedNodes }
+    ensures cycles { SmallCycles }
+    ensures nothing { LimitOfNothing }
 {}
 
 /// The labels of components, and so their number, are those by walks of segments.

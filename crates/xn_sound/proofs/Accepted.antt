@@ -1,5 +1,5 @@
 -- A proof that is accepted shows its bound of every drawing.
-use Rattle.std.proofs.Common.{◌≡◌, ℕ, zero, suc, false, eqb, List, [], ◌∷◌, arith, rules}
+use Rattle.std.proofs.Common.{◌≡◌, ℕ, zero, suc, false, eqb, List, [], ◌∷◌, ◌≤◌, subst, arith, rules}
 use Rattle.std.proofs.lemmas.Bool.{eqb-false}
 use Rattle.xn_model.specs.Examples.{k5}
 use Rattle.xn_model.specs.Graph.{HasNoLoop, IsGraph}
@@ -9,8 +9,9 @@ use Rattle.xn_sound.specs.Laws.{AcceptedProofsBound, ExamplesAreBounded, RowsAre
 use Rattle.xn_kinds.specs.State.{empty_state}
 
 pub accepted_proofs_bound : RowsAreMet → TreesProve → AllLieInEmpty → AcceptedProofsBound
-accepted_proofs_bound met prove lie g k rows nodes is_graph accepts ord next drawing =
-    prove g k rows empty_state nodes (λ i d i_in. met g _ is_graph (accepts.rows_hold i d i_in)) accepts.tree ord next drawing (lie ord)
+accepted_proofs_bound met prove lie g k rows nodes is_graph accepts c drawing =
+    subst (λ n. k ≤ n) drawing.3
+      (prove g k rows empty_state nodes (λ i d i_in. met g _ is_graph (accepts.rows_hold i d i_in)) accepts.tree drawing.0 drawing.1 drawing.2 (lie drawing.0))
 
 -- ---- the examples
 

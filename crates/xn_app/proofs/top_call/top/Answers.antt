@@ -1,6 +1,6 @@
 use Rattle.std.proofs.Common.{◌≡◌, ◌⊎◌, IfSome, rules}
-use Rattle.xn_words.specs.Gives.{request_of_command, words_request}
-use Rattle.xn_words.specs.Request.{check, examine}
+use Rattle.xn_command.specs.Gives.{request_of_command, words_request}
+use Rattle.xn_command.specs.Request.{check, examine}
 use Rattle.xn_app.specs.Ends.{Finishes}
 use Rattle.xn_app.specs.Outcome.{ComesTo, Outcome}
 use Rattle.xn_app.specs.Status.{IsAside, IsVerdictEnd}

@@ -4,7 +4,7 @@ use Rattle.std.specs.Global.{Global}
 use Rattle.xn_kura.proofs.Proposals.{nodes-push, nodes-skip, nodes-start}
 use Rattle.xn_kura.proofs.Tracing.{there}
 use Rattle.xn_kura.specs.Kinds.{AreNodesWith}
-use Rattle.xn_kura.specs.Straight.{dart_count}
+use Rattle.xn_model.specs.Loose.{dart_count}
 use Rattle.xn_kura.proofs.kinds.nodes_with.Goals as goal
 use Rattle.xn_kura.proofs.kinds.nodes_with.Goals.{then-index-count+in_ok-push, else-index-count}
 

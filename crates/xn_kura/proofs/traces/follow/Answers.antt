@@ -2,7 +2,7 @@ use Rattle.std.proofs.Common.{◌≡◌, ◌+◌, ◌/◌, ◌∙◌, ◌++◌, 
 use Rattle.std.specs.Prelude.{Some}
 use Rattle.xn_model.specs.Map.{reverse_of, tail_of}
 use Rattle.xn_kura.proofs.Tracing.{IsOnPath, ends_here, goes_on, next_node, straight_short, there}
-use Rattle.xn_kura.specs.Straight.{dart_count}
+use Rattle.xn_model.specs.Loose.{dart_count}
 use Rattle.xn_kura.proofs.traces.follow.Goals as goal
 
 pub loop-preserved : goal.loop-preserved

@@ -1,0 +1,20 @@
+use Rattle.std.proofs.Common.{◌≤◌, ap, arith, false, length, refl}
+use Rattle.std.proofs.lemmas.Bool.{both_ways}
+use Rattle.std.proofs.lemmas.List.FromFn.{length-range_with_len}
+use Rattle.xn_brute.proofs.Drawn.{short_of_drawing, test_from_orders}
+use Rattle.xn_brute.proofs.rotations.are_drawn.Goals as goal
+
+pub returns-then-not-are_short : goal.returns-then-not-are_short
+returns-then-not-are_short c = (
+  λ no. absurd (both_ways false refl no),
+  λ drawn.
+      let n = length c.args.graph.now.ends in
+      let few : n ≤ 1000 = omega (arith, ap length c.requires.edges, length-range_with_len 0 n, c.requires.few) in
+      absurd (both_ways _ c.if-not-are_short.true (c.are_short.ensures.1 (short_of_drawing c.args.graph.now c.args.orders.now drawn.next few drawn.drawing))),
+)
+
+pub returns-then-not-are_orders : goal.returns-then-not-are_orders
+returns-then-not-are_orders c = (
+  λ no. absurd (both_ways false refl no),
+  λ drawn. absurd (both_ways _ c.if-not-are_orders.true (c.are_orders.ensures.1 (test_from_orders c.args.graph.now c.args.orders.now drawn.drawing.drawing.orders))),
+)

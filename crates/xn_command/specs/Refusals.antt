@@ -1,0 +1,40 @@
+-- Why words ask for nothing, refusal by refusal.
+use Rattle.std.specs.Prelude.{◌≡◌, ◌↔◌, ◌<◌, ◌⊎◌, ℕ, List, Some, None, Contains, codes, length, slice_get}
+use Rattle.xn_command.specs.Items.{Item, after_name, budgets_of, items_of, operands_of, stray, unvalued}
+use Rattle.xn_command.specs.Request.{request_of}
+
+-- the command is the first operand
+abbrev pub HasCommand : List Item → List ℕ → Type 0
+HasCommand items command = slice_get (operands_of items) 0 ≡ Some command
+
+-- commands that take a graph and an answer
+abbrev pub TakesTwo : List Item → Type 0
+TakesTwo items = HasCommand items (codes "check") ⊎ HasCommand items (codes "draw")
+
+-- a command that takes an answer
+abbrev pub TakesOne : List Item → Type 0
+TakesOne items = HasCommand items (codes "examine")
+
+-- what is wrong with words that are these items
+pub data IsRefused (items : List Item) : Type 0 where
+  -- a word that begins with `-` stands where it is no operand, and is no budget
+  stray_word : Contains items stray → IsRefused items
+  -- the last word is `--budget`
+  no_value : Contains items unvalued → IsRefused items
+  -- a budget is given twice
+  two_budgets : 1 < length (budgets_of items) → IsRefused items
+  -- there are not two or three operands
+  few_operands : length (operands_of items) < 2 → IsRefused items
+  many_operands : 3 < length (operands_of items) → IsRefused items
+  -- the first operand is no command
+  no_command : ¬ (TakesOne items ⊎ TakesTwo items) → IsRefused items
+  -- a second file is given to a command that takes one
+  second_given : TakesOne items → length (operands_of items) ≡ 3 → IsRefused items
+  -- or it is missing
+  second_missing : TakesTwo items → length (operands_of items) ≡ 2 → IsRefused items
+  -- a budget is given to a command that takes none
+  budget_given : TakesOne items ⊎ TakesTwo items → 0 < length (budgets_of items) → IsRefused items
+
+-- words ask for nothing exactly where one of these is wrong with them
+abbrev pub RefusedExactly : Type 0
+RefusedExactly = (words : List (List ℕ)) → (request_of words ≡ None) ↔ IsRefused (items_of (after_name words))

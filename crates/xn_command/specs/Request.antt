@@ -1,0 +1,38 @@
+-- What a list of words asks for.
+use Rattle.std.specs.Prelude.{ℕ, List, [], ◌∷◌, Option, Some, None, if◌then◌else◌, codes}
+use Rattle.std.specs.List.{list_all}
+use Rattle.std.specs.Str.{bytes_eq}
+use Rattle.xn_command.specs.Items.{Item, after_name, budgets_of, is_useful, items_of, operands_of}
+
+-- what is asked for, with the names of the files
+pub data Request : Type 0 where
+  -- to judge an answer for a graph
+  check : List ℕ → List ℕ → Request
+  -- to test the drawing of an answer
+  examine : List ℕ → Request
+  -- to show the drawing of an answer for a graph
+  draw : List ℕ → List ℕ → Request
+
+-- what a command asks for with one operand after it
+abbrev pub with_one : List ℕ → List ℕ → Option Request
+with_one command first = if bytes_eq command (codes "examine") then Some (examine first) else None
+
+-- what a command asks for with two operands after it
+abbrev pub with_two : List ℕ → List ℕ → List ℕ → Option Request
+with_two command first second =
+    if bytes_eq command (codes "check") then Some (check first second)
+    else if bytes_eq command (codes "draw") then Some (draw first second) else None
+
+-- what operands and budgets ask for: a command that has one of these numbers of operands, and no budget
+abbrev pub asked_by : List (List ℕ) → List (List ℕ) → Option Request
+asked_by (command ∷ first ∷ []) [] = with_one command first
+asked_by (command ∷ first ∷ second ∷ []) [] = with_two command first second
+asked_by operands budgets = None
+
+-- what words ask for that are these items
+abbrev pub request_by : List Item → Option Request
+request_by items = if list_all is_useful items then asked_by (operands_of items) (budgets_of items) else None
+
+-- what a list of words asks for, of which the first is the program's name
+abbrev pub request_of : List (List ℕ) → Option Request
+request_of words = request_by (items_of (after_name words))

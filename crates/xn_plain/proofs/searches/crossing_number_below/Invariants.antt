@@ -1,6 +1,0 @@
-use Rattle.xn_model.specs.Drawing.{IsAtLeast}
-use Rattle.xn_plain.proofs.searches.crossing_number_below.Given as goal
-
--- no drawing has fewer crossings
-abbrev pub invariant-loop-k : goal.invariant-loop-k
-invariant-loop-k l = IsAtLeast l.graph l.k

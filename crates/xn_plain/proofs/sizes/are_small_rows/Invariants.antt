@@ -1,7 +1,0 @@
-use Rattle.std.proofs.Common.{ℕ, ◌<◌}
-use Rattle.xn_kinds.specs.Bound.{row_at}
-use Rattle.xn_plain.specs.Leaf.{IsSmallRow}
-use Rattle.xn_plain.proofs.sizes.are_small_rows.Given as goal
-
-abbrev pub invariant-loop-row : goal.invariant-loop-row
-invariant-loop-row l = (k : ℕ) → k < l.row-index → IsSmallRow l.graph (row_at l.rows k)
