@@ -1,4 +1,4 @@
-ghost use Rattle.std.specs.Prelude.{◌≡◌, ◌<◌, [], IfOk, length, slice_index_or};
+ghost use Rattle.std.specs.Prelude.{◌≡◌, ◌<◌, ◌++◌, ◌∷◌, [], IfOk, OnErr, OnOk, length, slice_index_or};
 ghost use Rattle.xn_list.specs.Lists.{lists_of};
 
 use std::alloc::{AllocError, Global};
@@ -40,6 +40,16 @@ impl Lists {
         ensures { result.now ≡ slice_index_or self.now i [] }
     {
         self.lists[i].as_slice()
+    }
+
+    /// One list more, the last. After want of memory the lists are as before.
+    pub fn push(&mut self, list: Vec<u32>) -> Result<(), AllocError>
+        ensures ok { OnOk result (self.new ≡ self.old ++ list.items ∷ []) }
+        ensures err { OnErr result (self.new ≡ self.old) }
+    {
+        self.lists.reserve(1)?;
+        self.lists.push_reserved(list);
+        Ok(())
     }
 
     /// The same lists again. It fails only for want of memory.

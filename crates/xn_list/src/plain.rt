@@ -1,4 +1,4 @@
-ghost use Rattle.std.specs.Prelude.{◌≡◌, ◌<◌, IfOk, length, slice_index_or};
+ghost use Rattle.std.specs.Prelude.{◌≡◌, ◌<◌, ◌++◌, ◌∷◌, [], IfOk, OnErr, OnOk, length, slice_index_or};
 
 use std::alloc::{AllocError, Global};
 use std::marker::Model;
@@ -40,11 +40,30 @@ impl<T> Sequence<T> {
         &self.list[i]
     }
 
+    /// The list itself.
+    pub fn into_vec(self) -> Vec<T>
+        ensures { result.items ≡ self }
+    {
+        self.list
+    }
+
     /// The elements in order.
     pub fn as_slice(&self) -> &[T]
         ensures { result.now ≡ self.now }
     {
         self.list.as_slice()
+    }
+}
+
+impl<T: Drop> Sequence<T> {
+    /// One element more, the last. After want of memory the list is as before.
+    pub fn push(&mut self, x: T) -> Result<(), AllocError>
+        ensures ok { OnOk result (self.new ≡ self.old ++ x ∷ []) }
+        ensures err { OnErr result (self.new ≡ self.old) }
+    {
+        self.list.reserve(1)?;
+        self.list.push_reserved(x);
+        Ok(())
     }
 }
 
