@@ -29,7 +29,7 @@ pub trait Input {
     /// Whether a call failed since that name was begun, its `begin` included.
     ghost failed: { Self → Bool };
 
-    /// BeginsFile a name, to read it from its start. The name is kept, also where the call fails.
+    /// Begins a name, to read it from its start. The name is kept, also where the call fails.
     fn begin(&mut self, file: String) -> Result<(), Failed>
         ensures name { name self.new ≡ Some (string_bytes file) }
         ensures got { got self.new ≡ 0 }
