@@ -7,7 +7,7 @@ use Rattle.xn_model.proofs.Darts.{cases_dart, tail-even, tail-odd}
 use Rattle.xn_genus.specs.Renumbering.{IsNodeRemoval, IsNodeRenumbering}
 use Rattle.xn_genus.proofs.Compress.{tail_in}
 use Rattle.xn_genus.proofs.Nodes.{components_fewer, components_of_nodes, faces_fewer, faces_of_nodes, lone_from, map_fewer, map_of_nodes}
-use Rattle.xn_sound.proofs.Flat.{HasFlat}
+use Rattle.xn_fewer.specs.Flat.{HasFlat}
 
 -- both ends under their new numbers
 abbrev pub both : (ℕ → ℕ) → ℕ × ℕ → ℕ × ℕ

@@ -9,13 +9,13 @@ use Rattle.xn_model.specs.Map.{IsFlat}
 use Rattle.xn_model.specs.Orders.{IsOrders, crossings_of}
 use Rattle.xn_model.specs.Web.{crossing_node, segments_of, segments_through, web_of}
 use Rattle.xn_genus.proofs.Kept.{EndsIn_at}
-use Rattle.xn_sound.specs.Laws.{FewerEdgesStayFlat, IsRestriction}
-use Rattle.xn_sound.proofs.Crossings.{IsCross, crossing_at, crossings_apart, node_apart, node_facts, node_turned}
-use Rattle.xn_sound.proofs.Flat.{HasFlat}
-use Rattle.xn_sound.proofs.Renamed.{AreNames, both, renamed_flat}
-use Rattle.xn_sound.proofs.Rising.{Rising, distinct-rising, has-all, rises-filter, rising-from_increasing, same_rising}
-use Rattle.xn_sound.proofs.Same.{has-kept, not_of_itself}
-use Rattle.xn_sound.proofs.Smoothed.{AreWays, all_smoothed, edges_dropped, has-first, has-later, has-picked, way}
+use Rattle.xn_fewer.specs.Flat.{HasFlat}
+use Rattle.xn_fewer.specs.Laws.{FewerEdgesStayFlat, IsRestriction}
+use Rattle.xn_fewer.proofs.Crossings.{IsCross, crossing_at, crossings_apart, node_apart, node_facts, node_turned, not_of_itself}
+use Rattle.xn_fewer.proofs.Renamed.{AreNames, both, renamed_flat}
+use Rattle.xn_fewer.proofs.Rising.{Rising, distinct-rising, has-all, rises-filter, rising-from_increasing, same_rising}
+use Rattle.xn_fewer.proofs.Has.{has-first, has-kept, has-later, has-picked}
+use Rattle.xn_fewer.proofs.Smoothed.{AreWays, all_smoothed, edges_dropped, way}
 
 -- ---- lists of segments under other names
 

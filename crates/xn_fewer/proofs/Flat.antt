@@ -3,7 +3,7 @@ use Rattle.std.proofs.Common.{◌≡◌, ◌≢◌, ℕ, suc, ◌+◌, ◌-◌, 
 use Rattle.std.proofs.lemmas.Bool.{cases_eq, cases_lt, cond-true, cond-false, eq-eqb, ne_eqb, lt-ltb, le-ltb}
 use Rattle.std.proofs.lemmas.List.{get_or_append_left, get_or_at}
 use Rattle.xn_model.specs.Graph.{ends_at}
-use Rattle.xn_model.specs.Map.{MeetsEuler, IsMap, face_step, is_lone, reverse_of, tail_of}
+use Rattle.xn_model.specs.Map.{face_step, is_lone, reverse_of, tail_of}
 use Rattle.xn_model.specs.Permutation.{Reaches}
 use Rattle.xn_model.proofs.Darts.{cases_dart, reverse-even, reverse-odd, tail-even, tail-odd}
 use Rattle.xn_ring.proofs.Orbits.{source_of}
@@ -16,11 +16,7 @@ use Rattle.xn_surgery.specs.Corners.{Corner, after, node_of, stand_at}
 use Rattle.xn_surgery.specs.Insertion.{IsInsertion}
 use Rattle.xn_surgery.proofs.Insert.{map_more}
 use Rattle.xn_surgery.proofs.InsertFlat.{insertion_flat}
-
-pub record HasFlat (nodes : ℕ) (ends : List (ℕ × ℕ)) : Type 0 where
-  pub next : ℕ → ℕ
-  pub is_map : IsMap nodes ends next
-  pub flat : MeetsEuler nodes ends next
+use Rattle.xn_fewer.specs.Flat.{HasFlat}
 
 -- ---- some segments of a web
 
