@@ -8,7 +8,7 @@ use Rattle.xn_model.specs.Lists.{has}
 use Rattle.xn_model.specs.Map.{is_lone}
 use Rattle.xn_model.specs.Web.{segments_through}
 use Rattle.xn_fewer.specs.Flat.{HasFlat}
-use Rattle.xn_fewer.proofs.Flat.{dropped_flat, joined_flat}
+use Rattle.xn_fewer.proofs.PassedOver.{dropped_flat, joined_flat}
 use Rattle.xn_fewer.proofs.Has.{has-first, has-later, has-map, has-picked}
 use Rattle.xn_fewer.proofs.Placed.{none_is}
 
