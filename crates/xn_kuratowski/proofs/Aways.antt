@@ -1,12 +1,12 @@
 -- The segments away from some nodes, and walks along them.
-use Rattle.std.proofs.Common.{◌≡◌, ◌≢◌, ℕ, ◌<◌, ◌⊎◌, inl, inr, Bool, true, false, eqb, List, [], ◌∷◌, length, refl, sym, ◌∙◌, ap, ap₂, subst, arith}
+use Rattle.std.proofs.Common.{◌≡◌, ◌≢◌, ℕ, ◌<◌, ◌⊎◌, inl, inr, Bool, true, false, eqb, List, [], ◌∷◌, length, refl, sym, ◌∙◌, ap, subst, arith}
 use Rattle.std.specs.List.{list_any}
 use Rattle.std.proofs.lemmas.Bool.{both_ways, cases_Bool, eq-eqb, eqb-true, eqb-false, ne_eqb, not-true, not_from_false, or_from, or_parts, false_from_ne_true}
 use Rattle.xn_model.specs.Graph.{EndsIn, ends_at, touches}
 use Rattle.xn_model.specs.Lists.{at, has}
-use Rattle.xn_model.specs.Map.{Joined, WalksTo, component_labels, is_lone, reverse_of, tail_of}
-use Rattle.xn_model.proofs.ComponentWalks.{joined_from_label, joined_sym, joined_trans, label_from_joined}
-use Rattle.xn_model.proofs.Darts.{cases_dart, reverse-even, reverse-odd, tail-even, tail-odd}
+use Rattle.xn_model.specs.Map.{Joined, component_labels, is_lone, tail_of}
+use Rattle.xn_model.proofs.ComponentWalks.{joined_from_label, joined_sym, label_from_joined}
+use Rattle.xn_model.proofs.Darts.{cases_dart, tail-even, tail-odd}
 use Rattle.xn_genus.proofs.Compress.{EndsIn_from}
 use Rattle.xn_genus.proofs.Kept.{EndsIn_at}
 use Rattle.xn_genus.proofs.Nodes.{lone_from}

@@ -6,7 +6,6 @@ use Rattle.std.proofs.lemmas.Bool.{both_ways, cases_Bool, cases_lt, cond-true, c
 use Rattle.xn_model.specs.Evidence.{IsFive, IsPathSystem, IsThreeThree, LeadAll, LeadsTo, all_inner, far_end, five_pairs, inner_nodes, three_pairs}
 use Rattle.xn_model.specs.Graph.{Graph, ends_at, touches}
 use Rattle.xn_model.specs.Lists.{has}
-use Rattle.xn_model.specs.Map.{IsFlat}
 use Rattle.xn_kinds.specs.declared.rows.Evidence.{Evidence}
 use Rattle.xn_kinds.specs.declared.rows.Evidence.TheVariants.{Five, ThreeThree}
 use Rattle.xn_kura.specs.Kinds.{IsWhole}

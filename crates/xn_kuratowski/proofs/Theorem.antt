@@ -1,15 +1,14 @@
 -- Every web without loops has a flat map, or K5 or K3,3 as a minor: by induction on the number of nodes and segments.
-use Rattle.std.proofs.Common.{◌≡◌, ◌≢◌, ℕ, zero, suc, ◌+◌, ◌<◌, inl, inr, Bool, true, false, not, ◌&&◌, eqb, List, [], ◌∷◌, length, refl, sym, subst, arith}
+use Rattle.std.proofs.Common.{◌≡◌, ℕ, zero, suc, ◌+◌, ◌<◌, inl, inr, Bool, true, false, not, ◌&&◌, eqb, List, [], ◌∷◌, length, refl, sym, subst, arith}
 use Rattle.std.proofs.lemmas.Bool.{both_ways, cases_Bool, cases_eq, eqb-false, ne_eqb, and_parts, and_from, not-true, not_from_false, false_from_ne_true}
 use Rattle.xn_model.specs.Graph.{EndsIn, Graph, HasNoLoop, ends_at, touches}
-use Rattle.xn_model.specs.Lists.{has}
 use Rattle.xn_model.specs.Map.{IsFlat, is_lone}
 use Rattle.xn_genus.proofs.Tests.{some_below, some_below-from, some_below-to}
 use Rattle.xn_kura.specs.Laws.{FiveExcludesFlat, ThreeThreeExcludesFlat}
 use Rattle.xn_fewer.specs.Flat.{HasFlat}
 use Rattle.xn_fewer.proofs.Flats.{some_flat}
 use Rattle.xn_kuratowski.specs.Minor.{HasMinor}
-use Rattle.xn_kuratowski.specs.Reduction.{HasNoParallels, HoldsBelow, IsFlatOrHasMinor, away}
+use Rattle.xn_kuratowski.specs.Reduction.{HasNoParallels, HoldsBelow, IsFlatOrHasMinor}
 use Rattle.xn_kuratowski.specs.Theorem.{FlatOrEvidence, FlatOrMinor, FlatWhereNoEvidence, HasEvidence}
 use Rattle.xn_kuratowski.proofs.Rim.{web_of_stars, web_merged}
 use Rattle.xn_kuratowski.proofs.Separation.{NoTwoSeparate, are_apart, falls_apart, some_two, some_two-from, some_two-to, stays_whole}

@@ -1,5 +1,5 @@
 -- Webs with a segment contracted, and unions of webs, that have a flat map.
-use Rattle.std.specs.Prelude.{◌≡◌, ◌≢◌, ℕ, zero, suc, ◌⊎◌, true, List, [], ◌∷◌, ◌++◌}
+use Rattle.std.specs.Prelude.{◌≡◌, ◌≢◌, ℕ, ◌⊎◌, true, List, [], ◌∷◌, ◌++◌}
 use Rattle.xn_model.specs.Map.{is_lone}
 use Rattle.xn_fewer.specs.Flat.{HasFlat, merged}
 
