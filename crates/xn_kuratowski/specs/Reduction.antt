@@ -39,7 +39,8 @@ LoneNodesGo =
 abbrev pub ParallelsGo : Type 0
 ParallelsGo =
     (nodes s t : ℕ) (ends : List (ℕ × ℕ)) → EndsIn nodes ends → HasNoLoop ends → HoldsBelow (nodes + length ends) →
-    s < length ends → t < length ends → s ≢ t → touches (ends_at ends s) (ends_at ends t).0 ≡ true → touches (ends_at ends s) (ends_at ends t).1 ≡ true → IsFlatOrHasMinor nodes ends
+    s < length ends → t < length ends → s ≢ t →
+    touches (ends_at ends s) (ends_at ends t).0 ≡ true → touches (ends_at ends s) (ends_at ends t).1 ≡ true → IsFlatOrHasMinor nodes ends
 
 -- a web that falls apart without two nodes, or one
 abbrev pub CutWebsGo : Type 0
