@@ -1,13 +1,13 @@
 -- How the counts of a state change where a pair is decided, and where an edge is placed.
-use Rattle.std.proofs.Common.{◌≡◌, ◌≢◌, ℕ, zero, suc, ◌+◌, ◌*◌, ◌<◌, ◌≤◌, inl, inr, Bool, true, false, ◌&&◌, ◌||◌, eqb, List, [], ◌∷◌, length, refl, sym, ◌∙◌, ap, subst, arith}
+use Rattle.std.proofs.Common.{◌≡◌, ◌≢◌, ℕ, ◌+◌, ◌*◌, ◌<◌, ◌≤◌, inl, inr, Bool, true, false, ◌&&◌, ◌||◌, eqb, List, length, refl, sym, ◌∙◌, ap, arith}
 use Rattle.std.specs.Prelude.{is_none, Option, Some, None, cond, insert, not}
-use Rattle.std.proofs.lemmas.Bool.{both_ways, cases_Bool, cases_eq, and_parts, cond-true, cond-false, eqb-true, eq-eqb, ne_eqb}
+use Rattle.std.proofs.lemmas.Bool.{both_ways, cases_Bool, and_parts, cond-true, cond-false, eqb-true, eq-eqb, ne_eqb}
 use Rattle.std.proofs.lemmas.List.Sorted.{IsPermutation-insert, list_any-IsPermutation}
 use Rattle.xn_model.specs.Graph.{Graph, Independent, edges_of, pairs_of}
-use Rattle.xn_model.specs.Lists.{has, one_if, total}
+use Rattle.xn_model.specs.Lists.{has, one_if}
 use Rattle.xn_kinds.specs.State.{State, Crosses, IsState, decide, place}
 use Rattle.xn_effort.specs.Potential.{is_one, ones_in, undecided_in, unplaced_at, unplaced_in}
-use Rattle.xn_effort.proofs.Sums.{is_pair, pair_once, same_pair, total_one, total_same}
+use Rattle.xn_effort.proofs.Sums.{is_pair, pair_once, same_pair, total_one}
 
 one_if-le : (b : Bool) → one_if b ≤ 1
 one_if-le true = omega arith

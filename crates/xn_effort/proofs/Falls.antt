@@ -1,13 +1,10 @@
 -- A node that opens a state takes at least one from its potential.
-use Rattle.std.proofs.Common.{◌≡◌, ℕ, zero, suc, ◌+◌, ◌-◌, ◌*◌, ◌<◌, ◌≤◌, Bool, true, false, List, [], ◌∷◌, length, map, refl, sym, ◌∙◌, ap, subst, arith}
+use Rattle.std.proofs.Common.{◌≡◌, ℕ, zero, suc, ◌+◌, ◌-◌, ◌*◌, ◌<◌, ◌≤◌, true, false, List, [], ◌∷◌, length, map, refl, ◌∙◌, ap, arith}
 use Rattle.std.specs.List.{range_with_len}
-use Rattle.xn_model.specs.Graph.{Graph, edges_of, pair_count_of, pairs_of}
-use Rattle.xn_model.specs.Limit.{limit_of_round}
+use Rattle.xn_model.specs.Graph.{edges_of, pair_count_of, pairs_of}
 use Rattle.xn_model.specs.Lists.{total}
-use Rattle.xn_kinds.specs.State.{State, IsState, decide, empty_state, place}
+use Rattle.xn_kinds.specs.State.{State, decide, empty_state, place}
 use Rattle.xn_kinds.specs.Tree.{children}
-use Rattle.xn_kinds.specs.declared.rows.Row.{Row}
-use Rattle.xn_kinds.specs.declared.trees.Node.{Node}
 use Rattle.xn_kinds.specs.declared.trees.Node.TheVariants.{Pair, Place, Leaf}
 use Rattle.xn_effort.specs.Laws.{OpeningLowers, RootIsLimit}
 use Rattle.xn_effort.specs.Potential.{ones_in, undecided_in, potential, potential_of, unplaced_in}

@@ -1,10 +1,7 @@
 -- Rounds, proofs and their beginnings stand while the rows grow.
-use Rattle.std.proofs.Common.{ℕ, List, [], ◌∷◌, ◌++◌}
-use Rattle.xn_model.specs.Graph.{Graph}
-use Rattle.xn_kinds.specs.State.{State, empty_state}
+use Rattle.std.proofs.Common.{[], ◌∷◌, ◌++◌}
+use Rattle.xn_kinds.specs.State.{empty_state}
 use Rattle.xn_kinds.specs.Tree.{Keeps}
-use Rattle.xn_kinds.specs.declared.rows.Row.{Row}
-use Rattle.xn_kinds.specs.declared.trees.Node.{Node}
 use Rattle.xn_effort.specs.Laws.{MoreRowsKeepBeginnings, MoreRowsKeepProofs, MoreRowsKeepRounds}
 use Rattle.xn_effort.specs.Leads.{Searches}
 use Rattle.xn_effort.proofs.Bounds.{keeps_more, searches_more}

@@ -1,11 +1,11 @@
 -- Trees whose rows have other numbers.
-use Rattle.std.proofs.Common.{◌≡◌, ℕ, zero, suc, ◌<◌, ◌≤◌, List, [], ◌∷◌, ◌++◌, length, map, refl, sym, ◌∙◌, ap, subst, arith}
+use Rattle.std.proofs.Common.{◌≡◌, ℕ, ◌<◌, ◌≤◌, List, [], ◌∷◌, ◌++◌, length, map, refl, sym, ◌∙◌, ap, subst}
 use Rattle.std.specs.Prelude.{pos, ◌-ℤ◌, ◌*ℤ◌, ◌^◌, All, IsPermutation}
 use Rattle.std.specs.List.Sorted.{IsStrictlyIncreasing}
 use Rattle.std.proofs.lemmas.List.Elements.{All-map}
 use Rattle.std.proofs.lemmas.List.Sorted.{All-permutation}
 use Rattle.xn_model.specs.Graph.{Graph}
-use Rattle.xn_kinds.specs.Bound.{PartsFit, part_value, row_at, total_ℤ}
+use Rattle.xn_kinds.specs.Bound.{PartsFit, part_value, total_ℤ}
 use Rattle.xn_kinds.specs.Row.{Values, value_of}
 use Rattle.xn_kinds.specs.State.{State}
 use Rattle.xn_kinds.specs.Tree.{AreTrees, Keeps, children}

@@ -1,8 +1,8 @@
 -- No more edges can be placed along an edge than there are crossings.
-use Rattle.std.proofs.Common.{◌≡◌, ◌≢◌, ℕ, zero, suc, ◌+◌, ◌<◌, ◌≤◌, ◌⊎◌, inl, inr, Bool, true, false, ◌&&◌, ◌||◌, eqb, List, [], ◌∷◌, length, refl, sym, ◌∙◌, ap, subst, arith}
+use Rattle.std.proofs.Common.{◌≡◌, ◌≢◌, ℕ, suc, ◌+◌, ◌≤◌, ◌⊎◌, inl, inr, Bool, true, false, ◌&&◌, ◌||◌, eqb, List, [], ◌∷◌, length, refl, sym, ◌∙◌, ap, subst, arith}
 use Rattle.std.specs.List.{AllByRecursion, IsDistinct}
-use Rattle.std.specs.Prelude.{Option, Some, None, nat_eq, not}
-use Rattle.std.proofs.lemmas.Bool.{both_ways, cases_Bool, cases_eq, and_parts, or_cases, eqb-true, eqb-false, eq-eqb, ne_eqb}
+use Rattle.std.specs.Prelude.{nat_eq, not}
+use Rattle.std.proofs.lemmas.Bool.{both_ways, cases_Bool, and_parts, or_cases, eqb-true, eqb-false, eq-eqb, ne_eqb}
 use Rattle.xn_model.specs.Graph.{Graph, edges_of, pairs_of}
 use Rattle.xn_model.specs.Lists.{has, one_if, total}
 use Rattle.xn_kinds.specs.State.{State, Crosses, IsState}

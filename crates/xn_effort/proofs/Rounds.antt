@@ -1,10 +1,10 @@
 -- The nodes of a round: a proof or the beginning of one, and how many they are.
-use Rattle.std.proofs.Common.{◌≡◌, ℕ, zero, suc, ◌+◌, ◌-◌, ◌*◌, ◌<◌, ◌≤◌, inl, inr, List, [], ◌∷◌, ◌++◌, length, refl, sym, ◌∙◌, ap, subst, arith}
+use Rattle.std.proofs.Common.{◌≡◌, ℕ, zero, suc, ◌+◌, ◌-◌, ◌*◌, ◌≤◌, inl, inr, List, [], ◌∷◌, ◌++◌, length, refl, sym, ap, subst, arith}
 use Rattle.std.specs.Prelude.{All}
 use Rattle.std.proofs.lemmas.List.Elements.{All-append, All-cons, All-head, All-nil, All-tail}
 use Rattle.std.proofs.lemmas.Bool.{cases_lt}
 use Rattle.xn_model.specs.Graph.{Graph, pair_count_of}
-use Rattle.xn_model.specs.Limit.{limit_of_round, limit_up_to}
+use Rattle.xn_model.specs.Limit.{limit_up_to}
 use Rattle.xn_model.specs.Lists.{total}
 use Rattle.xn_kinds.specs.Laws.{ChildrenAreStates, EmptyIsState}
 use Rattle.xn_kinds.specs.State.{State, IsState, empty_state}

@@ -5,11 +5,11 @@ use Rattle.xn_model.specs.Graph.{Graph, pair_count_of}
 use Rattle.xn_model.specs.Limit.{IsBelowLimit, IsWithinLimit, limit_of_round, limit_up_to}
 use Rattle.xn_model.specs.Lists.{total}
 use Rattle.xn_kinds.specs.State.{State, IsState, empty_state}
-use Rattle.xn_kinds.specs.Tree.{BeginsProof, Keeps, Proves, children}
+use Rattle.xn_kinds.specs.Tree.{BeginsProof, Proves, children}
 use Rattle.xn_kinds.specs.declared.rows.Row.{Row}
 use Rattle.xn_kinds.specs.declared.trees.Node.{Node}
 use Rattle.xn_effort.specs.Leads.{HasOpened, Searches}
-use Rattle.xn_effort.specs.Potential.{IsSearched, potential}
+use Rattle.xn_effort.specs.Potential.{potential}
 
 -- ---- one node
 

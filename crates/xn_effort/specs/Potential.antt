@@ -1,5 +1,5 @@
 -- The potential of a state: how many nodes a search may open at most from there on.
-use Rattle.std.specs.Prelude.{ℕ, ◌+◌, ◌-◌, ◌*◌, ◌^◌, ◌<◌, Bool, true, false, not, Option, Some, None, is_none, if◌then◌else◌}
+use Rattle.std.specs.Prelude.{ℕ, ◌+◌, ◌-◌, ◌*◌, ◌^◌, ◌<◌, Bool, false, not, Option, Some, None, is_none, if◌then◌else◌}
 use Rattle.xn_model.specs.Graph.{Graph, edges_of, pairs_of}
 use Rattle.xn_model.specs.Lists.{has, one_if, total}
 use Rattle.xn_kinds.specs.State.{State}
