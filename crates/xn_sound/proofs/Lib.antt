@@ -1,12 +1,5 @@
 mod Accepted
-mod Crossings
-mod Fewer
-mod Flat
 mod Leaves
-mod Placed
-mod Renamed
-mod Rising
 mod Rows
 mod Same
-mod Smoothed
 mod Trees

@@ -8,8 +8,9 @@ use Rattle.xn_extend.specs.Laws.{StuckMeansNoFlatMap}
 use Rattle.xn_kinds.specs.Row.{orders_of, value_of, values_in}
 use Rattle.xn_kinds.specs.declared.rows.Evidence.TheVariants.{Five, ThreeThree, Extension}
 use Rattle.xn_kura.specs.Laws.{FiveExcludesFlat, ThreeThreeExcludesFlat}
-use Rattle.xn_sound.specs.Laws.{EvidenceExcludesFlatMaps, FewerEdgesStayFlat, RowsAreMet, ZeroMeansTheRowsOrders}
-use Rattle.xn_sound.proofs.Rising.{has-all, rising-from_increasing}
+use Rattle.xn_fewer.specs.Laws.{FewerEdgesStayFlat}
+use Rattle.xn_sound.specs.Laws.{EvidenceExcludesFlatMaps, RowsAreMet, ZeroMeansTheRowsOrders}
+use Rattle.xn_fewer.proofs.Rising.{has-all, rising-from_increasing}
 use Rattle.xn_sound.proofs.Same.{less_is}
 
 -- a number of a range stands in it

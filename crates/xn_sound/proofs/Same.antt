@@ -1,15 +1,15 @@
 -- Where a row's value is 0, its orders are those of the drawing on its edges.
-use Rattle.std.proofs.Common.{◌≡◌, ◌≢◌, ℕ, ◌-◌, ◌<◌, ◌≤◌, inl, inr, Bool, true, false, not, cond, eqb, ltb, List, [], ◌∷◌, refl, sym, ◌∙◌, ap, ap₂, arith}
+use Rattle.std.proofs.Common.{◌≡◌, ◌≢◌, ℕ, ◌-◌, ◌<◌, ◌≤◌, inl, inr, Bool, true, false, cond, eqb, ltb, List, [], ◌∷◌, refl, sym, ◌∙◌, ap, ap₂, arith}
 use Rattle.std.specs.List.{IsDistinct}
 use Rattle.std.specs.Prelude.{filter, nat_eq}
-use Rattle.std.proofs.lemmas.Bool.{cases_lt, cases_order, cases_Bool, both_ways, and_parts, or_cases, or_left, eqb-false, eqb-true, eq-eqb, lt-ltb, le-ltb, cond-true, cond-false, not-true}
-use Rattle.xn_model.specs.Graph.{Independent, touches, ends_at, independent, each_two, pairs_of}
+use Rattle.std.proofs.lemmas.Bool.{cases_lt, cases_order, cases_Bool, both_ways, and_parts, or_cases, eqb-false, eqb-true, lt-ltb, le-ltb, cond-true, cond-false}
+use Rattle.xn_model.specs.Graph.{independent, each_two, pairs_of}
 use Rattle.xn_model.specs.Lists.{has, neighbours, one_if, position_in, stands_before, total}
 use Rattle.xn_model.specs.Orders.{IsOrders}
 use Rattle.xn_kinds.specs.Row.{literal, values_in}
-use Rattle.xn_sound.proofs.Crossings.{has_pair, is_pair, left_pair, two_in}
-use Rattle.xn_sound.proofs.Rising.{Rises, Rising, all_made, all_of, own_order, rises-filter, same_position, same_rising}
-use Rattle.xn_sound.proofs.Smoothed.{has-first, has-later, has-picked}
+use Rattle.xn_fewer.proofs.Crossings.{has_pair, is_pair, left_pair, not_of_itself, two_in}
+use Rattle.xn_fewer.proofs.Rising.{Rises, Rising, all_made, all_of, own_order, rises-filter, same_position, same_rising}
+use Rattle.xn_fewer.proofs.Has.{has-first, has-kept, has-later, has-picked}
 
 -- ---- sums that are 0
 
@@ -29,30 +29,6 @@ total_zero-at h (y ∷ ys) x none t = elim (or_cases (eqb y x) (has ys x) t) [
   | inl here ↦ let same : h y ≡ h x = ap h (eqb-true _ _ here) in omega (arith, none, same)
   | inr later ↦ total_zero-at h ys x (omega (arith, none)) later
 ]
-
--- ---- elements that a test picks
-
-pub has-kept : (p : ℕ → Bool) (xs : List ℕ) (x : ℕ) → has xs x ≡ true → p x ≡ true → has (filter p xs) x ≡ true
-has-kept p [] x h t = h
-has-kept p (y ∷ ys) x h t = elim (or_cases (eqb y x) (has ys x) h) [
-  | inl here ↦
-      let same : y ≡ x = eqb-true y x here in
-      let passes : p y ≡ true = ap p same ∙ t in
-      rw passes (or_left (eqb y x) (has (filter p ys) x) here)
-  | inr later ↦
-      let rest = has-kept p ys x later t in
-      elim (cases_Bool (p y)) [
-        | inl passes ↦ rw passes (has-later y (filter p ys) x rest)
-        | inr fails ↦ rw fails rest
-      ]
-]
-
--- an edge isn't independent of itself
-pub not_of_itself : (ends : List (ℕ × ℕ)) (e f : ℕ) → Independent ends e f → e ≢ f
-not_of_itself ends e f free same =
-    let own : independent ends f f ≡ true = ap (λ x. independent ends x f) (sym same) ∙ free in
-    let parts : (not (touches (ends_at ends f) (ends_at ends f).0) ≡ true) × (not (touches (ends_at ends f) (ends_at ends f).1) ≡ true) = and_parts _ _ own in
-    both_ways _ (not-true _ parts.0) (or_left _ _ (eq-eqb (ends_at ends f).0 (ends_at ends f).0 refl))
 
 module _ (ends : List (ℕ × ℕ)) (edges small : List ℕ) (rises : Rising small) (ord less : ℕ → List ℕ) (all : IsOrders ends edges ord) (some : IsOrders ends small less)
     (zero_pairs : total (λ p. cond (has (less p.0) p.1) (1 - one_if (has (ord p.0) p.1)) (one_if (has (ord p.0) p.1))) (pairs_of ends small) ≡ 0)

@@ -16,7 +16,7 @@ use Rattle.xn_kinds.specs.declared.trees.Node.TheVariants.{Pair, Place, Leaf}
 use Rattle.std.specs.Prelude.{All}
 use Rattle.xn_sound.specs.Laws.{DrawingsLieInChildren, IsMet, TreesProve}
 use Rattle.xn_sound.proofs.Leaves.{leaves_have_crossings}
-use Rattle.xn_sound.proofs.Placed.{placed_more}
+use Rattle.xn_fewer.proofs.Placed.{placed_more}
 
 -- ---- a child's state
 

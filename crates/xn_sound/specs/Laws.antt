@@ -1,12 +1,11 @@
 -- What rows and proof trees show of every drawing.
-use Rattle.std.specs.Prelude.{◌≡◌, ℕ, ◌<◌, ◌≤◌, true, List, length, filter, slice_index_or, All}
+use Rattle.std.specs.Prelude.{◌≡◌, ℕ, ◌<◌, ◌≤◌, List, length, slice_index_or, All}
 use Rattle.xn_model.specs.Drawing.{IsDrawing, IsAtLeast}
 use Rattle.xn_model.specs.Examples.{k5}
 use Rattle.xn_model.specs.Graph.{Graph, IsGraph, edges_of}
-use Rattle.xn_model.specs.Lists.{has}
 use Rattle.xn_model.specs.Map.{IsFlat}
 use Rattle.xn_model.specs.Orders.{IsOrders, crossing_count}
-use Rattle.xn_model.specs.Web.{web_of}
+use Rattle.xn_fewer.specs.Laws.{IsRestriction}
 use Rattle.xn_kinds.specs.Examples.{k5_and_two}
 use Rattle.xn_kinds.specs.Row.{EvidenceHolds, RowHolds, orders_of, value_of, values_in}
 use Rattle.xn_kinds.specs.State.{State, LiesIn, empty_state}
@@ -16,26 +15,13 @@ use Rattle.xn_kinds.specs.declared.rows.Row.{Row}
 use Rattle.xn_kinds.specs.declared.trees.Node.{Node}
 use Rattle.xn_kinds.specs.declared.trees.Node.TheVariants.{Pair, Place, Leaf}
 
--- ---- some of the edges
-
--- the orders are those of ord, with the crossings among the edges of small alone
-pub record IsRestriction (edges small : List ℕ) (ord less : ℕ → List ℕ) : Type 0 where
-  pub inside : (e : ℕ) → has small e ≡ true → has edges e ≡ true
-  pub kept : (e : ℕ) → has small e ≡ true → less e ≡ filter (has small) (ord e)
-
--- the web of some edges, with the crossings among them, has a flat map where the web of all does
-abbrev pub FewerEdgesStayFlat : Type 0
-FewerEdgesStayFlat =
-    (g : Graph) (edges small : List ℕ) (ord less : ℕ → List ℕ) (next : ℕ → ℕ) → IsGraph g → IsOrders g.ends edges ord → IsOrders g.ends small less →
-    IsRestriction edges small ord less → IsFlat (web_of g edges ord) next → (after : ℕ → ℕ) × IsFlat (web_of g small less) after
+-- ---- rows
 
 -- where a row's value in orders of the graph is 0, its own orders are those on its edges
 abbrev pub ZeroMeansTheRowsOrders : Type 0
 ZeroMeansTheRowsOrders =
     (g : Graph) (row : Row) (ord : ℕ → List ℕ) → IsOrders g.ends row.edges (orders_of row) → IsOrders g.ends (edges_of g) ord →
     value_of g row (values_in ord) ≡ 0 → IsRestriction (edges_of g) row.edges ord (orders_of row)
-
--- ---- rows
 
 -- a web for which an evidence of any kind holds has no flat map
 abbrev pub EvidenceExcludesFlatMaps : Type 0

@@ -1,14 +1,14 @@
 //! Laws on rows and proof trees. Each is the contract of a function whose body only names the laws that it stands on.
-ghost use Rattle.xn_sound.specs.Laws.{AcceptedProofsBound, DrawingsLieInChildren, EvidenceExcludesFlatMaps, ExamplesAreBounded, FewerEdgesStayFlat, LeavesHaveCrossings, RowsAreMet, TreesProve, ZeroMeansTheRowsOrders};
+ghost use Rattle.xn_sound.specs.Laws.{AcceptedProofsBound, DrawingsLieInChildren, EvidenceExcludesFlatMaps, ExamplesAreBounded, LeavesHaveCrossings, RowsAreMet, TreesProve, ZeroMeansTheRowsOrders};
 
 use xn_extend::laws::stuck_lists;
+use xn_fewer::laws::fewer_edges;
 use xn_kinds::laws::{drawings_lie_in_states, worked_examples};
 use xn_kura::laws::evidence_excludes_flat_maps;
 
-/// The web of some edges of a flat web is flat, and where the value of a row is 0, its web is such a one.
-pub fn restriction()
-    ensures flat { FewerEdgesStayFlat }
-    ensures zero { ZeroMeansTheRowsOrders }
+/// Where the value of a row in orders of the graph is 0, its own orders are those on its edges.
+pub fn rows_of_value_zero()
+    ensures { ZeroMeansTheRowsOrders }
 {}
 
 /// In every drawing the value of every row that holds is at least 1.
@@ -18,7 +18,8 @@ pub fn rows()
 {
     evidence_excludes_flat_maps();
     stuck_lists();
-    restriction();
+    fewer_edges();
+    rows_of_value_zero();
 }
 
 /// A drawing that lies in the state of a node lies in that of a child, and in a leaf's state it has the crossings.

@@ -6,4 +6,4 @@ returns-clause-evidence c =
     evidence_excludes_flat_maps c.evidence_excludes_flat_maps.ensures.five c.evidence_excludes_flat_maps.ensures.three_three c.stuck_lists.ensures.stuck
 
 pub returns-clause-met : goal.returns-clause-met
-returns-clause-met c = rows_are_met c.restriction.ensures.flat c.restriction.ensures.zero (returns-clause-evidence c)
+returns-clause-met c = rows_are_met c.fewer_edges.ensures c.rows_of_value_zero.ensures (returns-clause-evidence c)

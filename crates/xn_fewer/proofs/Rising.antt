@@ -6,7 +6,7 @@ use Rattle.std.specs.Prelude.{All, filter, nat_eq, slice_index_or}
 use Rattle.std.proofs.lemmas.Bool.{both_ways, cases_Bool, cases_eq, or_cases, cond-true, cond-false, eqb-false, eqb-true, eq-eqb, ne_eqb}
 use Rattle.std.proofs.lemmas.List.Kept.{AllPairs-from_increasing}
 use Rattle.xn_model.specs.Lists.{has, position_in}
-use Rattle.xn_sound.proofs.Smoothed.{has-first, has-later, has-picked}
+use Rattle.xn_fewer.proofs.Has.{has-first, has-later, has-picked}
 
 -- the rank rises along the list
 abbrev pub Rises : (ℕ → ℕ) → List ℕ → Type 0

@@ -1,43 +1,16 @@
 -- The web of some edges: the other edges go, and then their crossings, one after another along each edge.
-use Rattle.std.proofs.Common.{◌≡◌, ◌≢◌, ℕ, ◌⊎◌, inl, inr, Bool, true, false, not, ◌||◌, eqb, List, [], ◌∷◌, ◌++◌, map, refl, sym, ◌∙◌, ap, subst, append_assoc}
+use Rattle.std.proofs.Common.{◌≡◌, ◌≢◌, ℕ, ◌⊎◌, inl, inr, Bool, true, false, not, ◌||◌, List, [], ◌∷◌, ◌++◌, map, refl, sym, ◌∙◌, ap, subst, append_assoc}
 use Rattle.std.specs.List.{IsDistinct, flat_map, list_any}
 use Rattle.std.specs.Prelude.{filter, nat_eq}
-use Rattle.std.proofs.lemmas.Bool.{both_ways, cases_Bool, or_cases, or_parts, eqb-true, eq-eqb, ne_eqb, not-true}
+use Rattle.std.proofs.lemmas.Bool.{both_ways, cases_Bool, or_parts, ne_eqb, not-true}
 use Rattle.xn_model.specs.Graph.{touches}
 use Rattle.xn_model.specs.Lists.{has}
 use Rattle.xn_model.specs.Map.{is_lone}
 use Rattle.xn_model.specs.Web.{segments_through}
-use Rattle.xn_sound.proofs.Flat.{HasFlat, dropped_flat, joined_flat}
-use Rattle.xn_sound.proofs.Placed.{none_is}
-
--- ---- what stands in a list
-
-pub has-first : (x : ℕ) (xs : List ℕ) → has (x ∷ xs) x ≡ true
-has-first x xs = rw (eq-eqb x x refl) refl
-
-pub has-later : (x : ℕ) (xs : List ℕ) (y : ℕ) → has xs y ≡ true → has (x ∷ xs) y ≡ true
-has-later x xs y y_in = later (eqb x y) (has xs y) y_in
-  where
-    later : (a b : Bool) → b ≡ true → (a || b) ≡ true
-    later true b h = refl
-    later false b h = h
-
-pub has-picked : (p : ℕ → Bool) (xs : List ℕ) (y : ℕ) → has (filter p xs) y ≡ true → (has xs y ≡ true) × (p y ≡ true)
-has-picked p [] y h = absurd (both_ways false refl h)
-has-picked p (x ∷ xs) y h = elim (cases_Bool (p x)) [
-  | inl passes ↦ elim (or_cases (eqb x y) (has (filter p xs) y) (rw passes at h)) [
-    | inl here ↦ let same : x ≡ y = eqb-true x y here in (subst (λ z. has (x ∷ xs) z ≡ true) same (has-first x xs), ap p (sym same) ∙ passes)
-    | inr later ↦ let rest = has-picked p xs y later in (has-later x xs y rest.0, rest.1)
-  ]
-  | inr fails ↦ let rest = has-picked p xs y (rw fails at h) in (has-later x xs y rest.0, rest.1)
-]
-
-has-map : (f : ℕ → ℕ) (xs : List ℕ) (y : ℕ) → has (map f xs) y ≡ true → (x : ℕ) × (has xs x ≡ true) × (f x ≡ y)
-has-map f [] y h = absurd (both_ways false refl h)
-has-map f (x ∷ xs) y h = elim (or_cases (eqb (f x) y) (has (map f xs) y) h) [
-  | inl here ↦ (x, has-first x xs, eqb-true (f x) y here)
-  | inr later ↦ let rest = has-map f xs y later in (rest.0, has-later x xs rest.0 rest.1, rest.2)
-]
+use Rattle.xn_fewer.specs.Flat.{HasFlat}
+use Rattle.xn_fewer.proofs.PassedOver.{dropped_flat, joined_flat}
+use Rattle.xn_fewer.proofs.Has.{has-first, has-later, has-map, has-picked}
+use Rattle.xn_fewer.proofs.Placed.{none_is}
 
 -- ---- nodes that no segment of a list touches
 

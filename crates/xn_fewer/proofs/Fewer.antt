@@ -9,23 +9,20 @@ use Rattle.xn_model.specs.Map.{IsFlat}
 use Rattle.xn_model.specs.Orders.{IsOrders, crossings_of}
 use Rattle.xn_model.specs.Web.{crossing_node, segments_of, segments_through, web_of}
 use Rattle.xn_genus.proofs.Kept.{EndsIn_at}
-use Rattle.xn_sound.specs.Laws.{FewerEdgesStayFlat, IsRestriction}
-use Rattle.xn_sound.proofs.Crossings.{IsCross, crossing_at, crossings_apart, node_apart, node_facts, node_turned}
-use Rattle.xn_sound.proofs.Flat.{HasFlat}
-use Rattle.xn_sound.proofs.Renamed.{AreNames, both, renamed_flat}
-use Rattle.xn_sound.proofs.Rising.{Rising, distinct-rising, has-all, rises-filter, rising-from_increasing, same_rising}
-use Rattle.xn_sound.proofs.Same.{has-kept, not_of_itself}
-use Rattle.xn_sound.proofs.Smoothed.{AreWays, all_smoothed, edges_dropped, has-first, has-later, has-picked, way}
+use Rattle.xn_fewer.specs.Flat.{HasFlat, both}
+use Rattle.xn_fewer.specs.Laws.{FewerEdgesStayFlat, IsRestriction}
+use Rattle.xn_fewer.proofs.Crossings.{IsCross, crossing_at, crossings_apart, node_apart, node_facts, node_turned, not_of_itself}
+use Rattle.xn_fewer.proofs.Lists.{both-append}
+use Rattle.xn_fewer.proofs.Renamed.{AreNames, renamed_flat}
+use Rattle.xn_fewer.proofs.Rising.{Rising, distinct-rising, has-all, rises-filter, rising-from_increasing, same_rising}
+use Rattle.xn_fewer.proofs.Has.{has-first, has-kept, has-later, has-picked}
+use Rattle.xn_fewer.proofs.Smoothed.{AreWays, all_smoothed, edges_dropped, way}
 
 -- ---- lists of segments under other names
 
 both-through : (m : ℕ → ℕ) (u v : ℕ) (ws : List ℕ) → map (both m) (segments_through u ws v) ≡ segments_through (m u) (map m ws) (m v)
 both-through m u v [] = refl
 both-through m u v (w ∷ ws) = ap (λ ps. (m u, m w) ∷ ps) (both-through m w v ws)
-
-both-append : (m : ℕ → ℕ) (ps qs : List (ℕ × ℕ)) → map (both m) (ps ++ qs) ≡ map (both m) ps ++ map (both m) qs
-both-append m [] qs = refl
-both-append m (p ∷ ps) qs = ap (λ rest. both m p ∷ rest) (both-append m ps qs)
 
 both-flat_map : (m : ℕ → ℕ) (f h : ℕ → List (ℕ × ℕ)) (es : List ℕ) → ((e : ℕ) → has es e ≡ true → map (both m) (f e) ≡ h e) → map (both m) (flat_map f es) ≡ flat_map h es
 both-flat_map m f h [] each = refl

@@ -1,9 +1,9 @@
--- Webs that have a flat map: some of their segments do, and so do they with a node of two darts passed over.
+-- Webs that have a flat map still have one where segments go, or a node of two darts is passed over.
 use Rattle.std.proofs.Common.{◌≡◌, ◌≢◌, ℕ, suc, ◌+◌, ◌-◌, ◌*◌, ◌/◌, ◌%◌, ◌<◌, ◌≤◌, ◌⊎◌, inl, inr, true, cond, eqb, ltb, List, [], ◌∷◌, ◌++◌, length, refl, sym, ◌∙◌, ap, ap₂, arith, length-append}
 use Rattle.std.proofs.lemmas.Bool.{cases_eq, cases_lt, cond-true, cond-false, eq-eqb, ne_eqb, lt-ltb, le-ltb}
 use Rattle.std.proofs.lemmas.List.{get_or_append_left, get_or_at}
 use Rattle.xn_model.specs.Graph.{ends_at}
-use Rattle.xn_model.specs.Map.{MeetsEuler, IsMap, face_step, is_lone, reverse_of, tail_of}
+use Rattle.xn_model.specs.Map.{face_step, is_lone, reverse_of, tail_of}
 use Rattle.xn_model.specs.Permutation.{Reaches}
 use Rattle.xn_model.proofs.Darts.{cases_dart, reverse-even, reverse-odd, tail-even, tail-odd}
 use Rattle.xn_ring.proofs.Orbits.{source_of}
@@ -16,88 +16,9 @@ use Rattle.xn_surgery.specs.Corners.{Corner, after, node_of, stand_at}
 use Rattle.xn_surgery.specs.Insertion.{IsInsertion}
 use Rattle.xn_surgery.proofs.Insert.{map_more}
 use Rattle.xn_surgery.proofs.InsertFlat.{insertion_flat}
-
-pub record HasFlat (nodes : ℕ) (ends : List (ℕ × ℕ)) : Type 0 where
-  pub next : ℕ → ℕ
-  pub is_map : IsMap nodes ends next
-  pub flat : MeetsEuler nodes ends next
-
--- ---- some segments of a web
-
--- segment i of the part is segment σ i of the web
-pub record IsPicked (ends part : List (ℕ × ℕ)) (σ : ℕ → ℕ) : Type 0 where
-  pub below : (i : ℕ) → i < length part → σ i < length ends
-  pub apart : (i j : ℕ) → i < length part → j < length part → σ i ≡ σ j → i ≡ j
-  pub same : (i : ℕ) → i < length part → ends_at part i ≡ ends_at ends (σ i)
-
-module _ (ends part : List (ℕ × ℕ)) (σ : ℕ → ℕ) (picks : IsPicked ends part σ) where
-  abbrev dart : ℕ → ℕ
-  dart j = 2 * σ (j / 2) + j % 2
-
-  dart_reverse : (j : ℕ) → dart (reverse_of j) ≡ reverse_of (dart j)
-  dart_reverse j =
-      let c = cases_dart j in
-      let half = ap σ (half_reverse j) in
-      let t = σ (j / 2) in
-      elim c.1 [
-        | inl even ↦
-            let r : reverse_of j ≡ 2 * c.0 + 1 = ap reverse_of even ∙ reverse-even c.0 in
-            let here : dart j ≡ 2 * t = omega (arith, even) in
-            let there : dart (reverse_of j) ≡ 2 * t + 1 = omega (arith, r, half) in
-            there ∙ sym (reverse-even t) ∙ ap reverse_of (sym here)
-        | inr odd ↦
-            let r : reverse_of j ≡ 2 * c.0 = ap reverse_of odd ∙ reverse-odd c.0 in
-            let here : dart j ≡ 2 * t + 1 = omega (arith, odd) in
-            let there : dart (reverse_of j) ≡ 2 * t = omega (arith, r, half) in
-            there ∙ sym (reverse-odd t) ∙ ap reverse_of (sym here)
-      ]
-
-  dart_tail : (j : ℕ) → j < 2 * length part → tail_of part j ≡ tail_of ends (dart j)
-  dart_tail j j_in =
-      let c = cases_dart j in
-      let s_in : c.0 < length part = omega (arith, c.1) in
-      let t = σ c.0 in
-      elim c.1 [
-        | inl even ↦
-            let half : j / 2 ≡ c.0 = omega (arith, even) in
-            let there : dart j ≡ 2 * t = omega (arith, ap σ half, even) in
-            ap (tail_of part) even ∙ tail-even part c.0 ∙ ap (λ p. p.0) (picks.same c.0 s_in) ∙ sym (tail-even ends t) ∙ ap (tail_of ends) (sym there)
-        | inr odd ↦
-            let half : j / 2 ≡ c.0 = omega (arith, odd) in
-            let there : dart j ≡ 2 * t + 1 = omega (arith, ap σ half, odd) in
-            ap (tail_of part) odd ∙ tail-odd part c.0 ∙ ap (λ p. p.1) (picks.same c.0 s_in) ∙ sym (tail-odd ends t) ∙ ap (tail_of ends) (sym there)
-      ]
-
-  is_part : IsPart ends part dart
-  is_part = record {
-    below = λ j j_in. let low = picks.below (j / 2) (omega arith) in omega (arith, low);
-    apart = λ i j i_in j_in same.
-        let segments : σ (i / 2) ≡ σ (j / 2) = omega (arith, same) in
-        let halves : i / 2 ≡ j / 2 = picks.apart (i / 2) (j / 2) (omega arith) (omega arith) segments in
-        omega (arith, same, segments, halves);
-    reverses = λ j j_in. dart_reverse j;
-    tails = dart_tail;
-  }
-
-  pub picked_flat : (nodes : ℕ) → HasFlat nodes ends → HasFlat nodes part
-  picked_flat nodes has =
-      let over = passes_over nodes ends part dart has.next has.is_map is_part in
-      record {
-        next = over.0;
-        is_map = map_of_part nodes ends part dart has.next has.is_map is_part over.0 over.1;
-        flat = flat_of_part nodes ends part dart has.next has.is_map is_part over.0 over.1 has.flat;
-      }
-
--- ---- segments of two lists
-
-pub at_left : (xs ys : List (ℕ × ℕ)) (i : ℕ) → i < length xs → ends_at (xs ++ ys) i ≡ ends_at xs i
-at_left xs ys i i_in = get_or_append_left xs ys (0, 0) i i_in
-
-pub at_right : (xs ys : List (ℕ × ℕ)) (i : ℕ) → ends_at (xs ++ ys) (length xs + i) ≡ ends_at ys i
-at_right [] ys i = ap (ends_at ys) (omega arith)
-at_right (x ∷ xs) ys i =
-    let on : length (x ∷ xs) + i ≡ suc (length xs + i) = omega arith in
-    ap (ends_at (x ∷ xs ++ ys)) on ∙ at_right xs ys i
+use Rattle.xn_fewer.specs.Flat.{HasFlat}
+use Rattle.xn_fewer.proofs.Flats.{IsPicked, picked_flat}
+use Rattle.xn_fewer.proofs.Lists.{at_back, at_front, lone_ends}
 
 -- the segments in the middle go
 pub dropped_flat : (nodes : ℕ) (pre mid post : List (ℕ × ℕ)) → HasFlat nodes (pre ++ (mid ++ post)) → HasFlat nodes (pre ++ post)
@@ -115,21 +36,14 @@ dropped_flat nodes pre mid post has =
       below = λ i i_in. omega (arith, cases i, size, less, i_in);
       apart = λ i j i_in j_in same. omega (arith, cases i, cases j, same);
       same = λ i i_in. elim (cases i) [
-        | inl front ↦ at_left pre post i front.0 ∙ sym (at_left pre (mid ++ post) i front.0) ∙ ap (ends_at (pre ++ (mid ++ post))) (sym front.1)
+        | inl front ↦ at_front pre post i front.0 ∙ sym (at_front pre (mid ++ post) i front.0) ∙ ap (ends_at (pre ++ (mid ++ post))) (sym front.1)
         | inr back ↦
             let k = i - s in
             let here : i ≡ s + k = omega (arith, back.0) in
             let there : σ i ≡ s + (m + k) = omega (arith, back.0, back.1) in
-            ap (ends_at (pre ++ post)) here ∙ at_right pre post k ∙ sym (at_right mid post k) ∙ sym (at_right pre (mid ++ post) (m + k)) ∙ ap (ends_at (pre ++ (mid ++ post))) (sym there)
+            ap (ends_at (pre ++ post)) here ∙ at_back pre post k ∙ sym (at_back mid post k) ∙ sym (at_back pre (mid ++ post) (m + k)) ∙ ap (ends_at (pre ++ (mid ++ post))) (sym there)
       ];
     }) nodes has
-
--- no segment of the list has the lone node as an end
-pub lone_at : (ends : List (ℕ × ℕ)) (w : ℕ) → is_lone ends w ≡ true → (i : ℕ) → i < length ends → ((ends_at ends i).0 ≢ w) × ((ends_at ends i).1 ≢ w)
-lone_at ends w alone i i_in = (
-  λ same. no_dart_if_lone ends w alone (2 * i) (omega arith) (tail-even ends i ∙ same),
-  λ same. no_dart_if_lone ends w alone (2 * i + 1) (omega arith) (tail-odd ends i ∙ same),
-)
 
 -- ---- a node with two darts is passed over
 
@@ -169,19 +83,19 @@ module _ (nodes u w x : ℕ) (pre post : List (ℕ × ℕ)) (lone_pre : is_lone 
   at_s = get_or_at pre (u, w) ((w, x) ∷ post) (0, 0) s refl
 
   at_next : ends_at ends (s + 1) ≡ (w, x)
-  at_next = at_right pre ((u, w) ∷ (w, x) ∷ post) 1
+  at_next = at_back pre ((u, w) ∷ (w, x) ∷ post) 1
 
   at_post : (k : ℕ) → ends_at ends (s + (2 + k)) ≡ ends_at post k
   at_post k =
       let two : 2 + k ≡ suc (suc k) = omega arith in
-      at_right pre ((u, w) ∷ (w, x) ∷ post) (2 + k) ∙ ap (ends_at ((u, w) ∷ (w, x) ∷ post)) two
+      at_back pre ((u, w) ∷ (w, x) ∷ post) (2 + k) ∙ ap (ends_at ((u, w) ∷ (w, x) ∷ post)) two
 
   -- a segment at w is one of the two
   at_w : (t : ℕ) → t < n → ((ends_at ends t).0 ≡ w) ⊎ ((ends_at ends t).1 ≡ w) → (t ≡ s) ⊎ (t ≡ s + 1)
   at_w t t_in at = elim (cases_lt t s) [
     | inl front ↦
-        let never = lone_at pre w lone_pre t front in
-        let same = at_left pre ((u, w) ∷ (w, x) ∷ post) t front in
+        let never = lone_ends pre w lone_pre t front in
+        let same = at_front pre ((u, w) ∷ (w, x) ∷ post) t front in
         absurd (elim at [ inl one ↦ never.0 (ap (λ p. p.0) (sym same) ∙ one) | inr two ↦ never.1 (ap (λ p. p.1) (sym same) ∙ two) ])
     | inr high ↦ elim (cases_eq t s) [
       | inl here ↦ inl here
@@ -190,7 +104,7 @@ module _ (nodes u w x : ℕ) (pre post : List (ℕ × ℕ)) (lone_pre : is_lone 
         | inr further ↦
             let k = t - (s + 2) in
             let is : t ≡ s + (2 + k) = omega (arith, high, past, further) in
-            let never = lone_at post w lone_post k (omega (arith, size, t_in, is)) in
+            let never = lone_ends post w lone_post k (omega (arith, size, t_in, is)) in
             let same = ap (ends_at ends) is ∙ at_post k in
             absurd (elim at [ inl one ↦ never.0 (ap (λ p. p.0) (sym same) ∙ one) | inr two ↦ never.1 (ap (λ p. p.1) (sym same) ∙ two) ])
       ]
@@ -313,7 +227,7 @@ module _ (nodes u w x : ℕ) (pre post : List (ℕ × ℕ)) (lone_pre : is_lone 
   ]
 
   old : (i : ℕ) → i < n → ends_at more i ≡ ends_at ends i
-  old i i_in = at_left ends ((node_of ends from, node_of ends to) ∷ []) i i_in
+  old i i_in = at_front ends ((node_of ends from, node_of ends to) ∷ []) i i_in
 
   picks : IsPicked more left σ
   picks = record {
@@ -321,7 +235,7 @@ module _ (nodes u w x : ℕ) (pre post : List (ℕ × ℕ)) (lone_pre : is_lone 
     apart = λ i j i_in j_in same. omega (arith, cases i, cases j, same, left_size, size, i_in, j_in);
     same = λ i i_in. elim (cases i) [
       | inl front ↦
-          at_left pre ((u, x) ∷ post) i front.0 ∙ sym (at_left pre ((u, w) ∷ (w, x) ∷ post) i front.0)
+          at_front pre ((u, x) ∷ post) i front.0 ∙ sym (at_front pre ((u, w) ∷ (w, x) ∷ post) i front.0)
           ∙ sym (old i (omega (arith, front.0, size))) ∙ ap (ends_at more) (sym front.1)
       | inr (inl here) ↦
           let pair : (u, x) ≡ (node_of ends from, node_of ends to) = ap₂ (λ y z. (y, z)) (sym from_u) (sym tail_d) in
@@ -332,7 +246,7 @@ module _ (nodes u w x : ℕ) (pre post : List (ℕ × ℕ)) (lone_pre : is_lone 
           let is : i ≡ s + (1 + k) = omega (arith, back.0) in
           let one : 1 + k ≡ suc k = omega arith in
           let there : σ i ≡ s + (2 + k) = omega (arith, back.1, is) in
-          ap (ends_at left) is ∙ at_right pre ((u, x) ∷ post) (1 + k) ∙ ap (ends_at ((u, x) ∷ post)) one ∙ sym (at_post k)
+          ap (ends_at left) is ∙ at_back pre ((u, x) ∷ post) (1 + k) ∙ ap (ends_at ((u, x) ∷ post)) one ∙ sym (at_post k)
           ∙ sym (old (s + (2 + k)) (omega (arith, size, left_size, i_in, is))) ∙ ap (ends_at more) (sym there)
     ];
   }

@@ -1,14 +1,21 @@
 -- Crossings of orders, their numbers and their nodes.
-use Rattle.std.proofs.Common.{◌≡◌, ◌≢◌, ℕ, zero, suc, ◌+◌, ◌<◌, ◌≤◌, ◌⊎◌, inl, inr, Bool, true, false, ◌&&◌, eqb, List, [], ◌∷◌, ◌++◌, length, map, refl, sym, ◌∙◌, ap, ap₂, subst, arith}
+use Rattle.std.proofs.Common.{◌≡◌, ◌≢◌, ℕ, zero, suc, ◌+◌, ◌<◌, ◌≤◌, ◌⊎◌, inl, inr, Bool, true, false, not, ◌&&◌, eqb, List, [], ◌∷◌, ◌++◌, length, map, refl, sym, ◌∙◌, ap, ap₂, subst, arith}
 use Rattle.std.specs.List.{list_any}
 use Rattle.std.specs.Prelude.{filter}
-use Rattle.std.proofs.lemmas.Bool.{cases_order, cases_Bool, both_ways, and_from, and_parts, false_from_ne_true, or_cases, or_left, or_right, eqb-true, eq-eqb, lt-ltb, le-ltb, cond-true, cond-false}
-use Rattle.xn_model.specs.Graph.{each_two, ends_at}
+use Rattle.std.proofs.lemmas.Bool.{cases_order, cases_Bool, both_ways, and_from, and_parts, false_from_ne_true, or_cases, or_left, or_right, eqb-true, eq-eqb, lt-ltb, le-ltb, cond-true, cond-false, not-true}
+use Rattle.xn_model.specs.Graph.{Independent, each_two, ends_at, independent, touches}
 use Rattle.xn_model.specs.Lists.{has}
 use Rattle.xn_model.specs.Orders.{crossings_of}
 use Rattle.xn_model.specs.Web.{crossing_node, crossing_number_in}
-use Rattle.xn_sound.proofs.Rising.{Rising, all_of}
-use Rattle.xn_sound.proofs.Smoothed.{has-first, has-later}
+use Rattle.xn_fewer.proofs.Rising.{Rising, all_of}
+use Rattle.xn_fewer.proofs.Has.{has-first, has-later}
+
+-- an edge isn't independent of itself
+pub not_of_itself : (ends : List (ℕ × ℕ)) (e f : ℕ) → Independent ends e f → e ≢ f
+not_of_itself ends e f free same =
+    let own : independent ends f f ≡ true = ap (λ x. independent ends x f) (sym same) ∙ free in
+    let parts : (not (touches (ends_at ends f) (ends_at ends f).0) ≡ true) × (not (touches (ends_at ends f) (ends_at ends f).1) ≡ true) = and_parts _ _ own in
+    both_ways _ (not-true _ parts.0) (or_left _ _ (eq-eqb (ends_at ends f).0 (ends_at ends f).0 refl))
 
 -- ---- pairs in a list
 

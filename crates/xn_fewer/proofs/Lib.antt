@@ -1,0 +1,11 @@
+pub mod Crossings
+pub mod Fewer
+pub mod Flats
+pub mod Has
+pub mod Lists
+pub mod PassedOver
+pub mod Placed
+pub mod Renamed
+pub mod Rising
+pub mod Smoothed
+pub mod Walks
