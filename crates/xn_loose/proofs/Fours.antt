@@ -4,7 +4,7 @@ use Rattle.std.specs.List.{IsDistinct}
 use Rattle.std.specs.Prelude.{nat_eq}
 use Rattle.std.proofs.lemmas.Bool.{both_ways, eqb-true, ne_eqb, or_cases}
 use Rattle.xn_model.specs.Lists.{at, has}
-use Rattle.xn_track.proofs.Has.{has-at}
+use Rattle.xn_track.proofs.Places.{has-at}
 
 pub four_distinct : (a b c e : ℕ) → a ≢ b → a ≢ c → a ≢ e → b ≢ c → b ≢ e → c ≢ e → IsDistinct nat_eq (a ∷ b ∷ c ∷ e ∷ [])
 unfolding IsDistinct

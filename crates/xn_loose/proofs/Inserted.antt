@@ -1,7 +1,7 @@
 -- An edge comes into a track along a route.
 use Rattle.std.proofs.Common.{◌≡◌, ◌≢◌, ℕ, suc, ◌+◌, ◌*◌, ◌/◌, ◌<◌, ◌≤◌, ◌⊎◌, inl, inr, Bool, true, false, not, ◌&&◌, eqb, leb, List, [], ◌∷◌, ◌++◌, length, refl, sym, ◌∙◌, ap, subst, arith}
-use Rattle.std.specs.List.{IsDistinct, flat_map}
-use Rattle.std.specs.Prelude.{All, nat_eq}
+use Rattle.std.specs.List.{flat_map}
+use Rattle.std.specs.Prelude.{All}
 use Rattle.std.proofs.lemmas.Bool.{both_ways, cases_Bool, cases_eq, cond-true, cond-false, eq-eqb, leb-true, ne_eqb}
 use Rattle.xn_model.specs.Graph.{Graph, IsGraph, ends_at}
 use Rattle.xn_model.specs.Lists.{has, one_if, total}
@@ -13,6 +13,8 @@ use Rattle.xn_model.proofs.Darts.{reverse-even, reverse_below}
 use Rattle.xn_surgery.specs.Subdivision.{dart_now}
 use Rattle.xn_genus.proofs.Compress.{tail_in}
 use Rattle.xn_genus.proofs.Kept.{EndsIn_at}
+use Rattle.xn_fewer.proofs.Has.{has-first, has-later}
+use Rattle.xn_fewer.proofs.Rising.{distinct-rising, has-all, rising-from_increasing}
 use Rattle.xn_loose.specs.Inserting.{EdgesComeIn, IsOneMore}
 use Rattle.xn_track.specs.Relinking.{Leads}
 use Rattle.xn_loose.specs.Routes.{AreFaceNames, IsWithin, RouteOf, dart_back, dart_on}
@@ -20,13 +22,11 @@ use Rattle.xn_track.specs.Steps.{with_walk}
 use Rattle.xn_track.specs.Track.{GoesOn, IsGround, IsTrack, straight_on}
 use Rattle.xn_loose.proofs.Across.{steps_across}
 use Rattle.xn_loose.proofs.Growing.{Exact, State, also_of_four, cursor_of, exact_stepped, four_new, now_cases, own', path_times, stepped, walks'}
-use Rattle.xn_track.proofs.Has.{all_not, has-first, has-later}
 use Rattle.xn_loose.proofs.Land.{At, Fine, Landing, Seam, also, also_count, also_here, also_parts, new_fine, old_fine, old_seam, own_seam}
 use Rattle.xn_loose.proofs.OneMore.{one_more_low, one_more_total, within_total}
 use Rattle.xn_track.proofs.Paths.{Path, path_append, path_ends_in, path_map, times-append}
-use Rattle.xn_track.proofs.Rising.{distinct-rising, has-all, rising-from_increasing}
 use Rattle.xn_track.proofs.Steps.{EdgePath, as_walk, edge_path}
-use Rattle.xn_track.proofs.Tally.{but, but_here, but_there, same_total, total-out, times-flat_map}
+use Rattle.xn_track.proofs.Tally.{but, but_there, same_total, total-out, times-flat_map}
 use Rattle.xn_loose.proofs.Within.{steps_within}
 
 -- ---- the last segment

@@ -1,8 +1,8 @@
 -- An edge comes into a loose drawing, with as many crossings as its route crosses segments.
-use Rattle.std.proofs.Common.{◌≡◌, ◌≢◌, ℕ, ◌+◌, ◌*◌, ◌<◌, ◌≤◌, ◌⊎◌, inl, inr, Bool, true, false, eqb, List, [], ◌∷◌, length, refl, sym, ◌∙◌, ap, subst, arith}
-use Rattle.std.proofs.lemmas.Bool.{both_ways, cases_Bool, cond-true, eq-eqb, eqb-true, or_cases}
+use Rattle.std.proofs.Common.{◌≡◌, ◌≢◌, ℕ, ◌+◌, ◌*◌, ◌<◌, ◌≤◌, inl, inr, Bool, true, eqb, List, [], ◌∷◌, length, sym, ◌∙◌, ap, arith}
+use Rattle.std.proofs.lemmas.Bool.{cases_Bool, cond-true, eq-eqb, eqb-true}
 use Rattle.xn_model.specs.Graph.{Graph, ends_at}
-use Rattle.xn_model.specs.Lists.{at, has}
+use Rattle.xn_model.specs.Lists.{has}
 use Rattle.xn_model.specs.Loose.{GoesStraight, dart_count}
 use Rattle.xn_model.specs.Map.{WalksTo, reverse_of, tail_of}
 use Rattle.xn_model.specs.Permutation.{count_below}
@@ -12,7 +12,6 @@ use Rattle.xn_genus.proofs.Compress.{tail_in}
 use Rattle.xn_loose.specs.Inserting.{EdgesComeIntoLooseDrawings}
 use Rattle.xn_track.specs.Track.{GoesOn, IsGround, straight_on}
 use Rattle.xn_loose.proofs.Growing.{Exact}
-use Rattle.xn_track.proofs.Has.{has-at}
 use Rattle.xn_loose.proofs.Inserted.{come_in}
 use Rattle.xn_loose.proofs.OneMore.{one_more_low}
 use Rattle.xn_loose.proofs.InWeb.{count_listed}

@@ -16,11 +16,11 @@ use Rattle.xn_surgery.specs.Insertion.{IsInsertion}
 use Rattle.xn_surgery.proofs.Insert.{map_more}
 use Rattle.xn_surgery.proofs.InsertFlat.{insertion_flat}
 use Rattle.xn_surgery.proofs.Stand.{alone_other, stand_other}
+use Rattle.xn_fewer.proofs.Rising.{distinct-rising, rising-from_increasing}
 use Rattle.xn_loose.specs.Inserting.{EdgesJoinComponents, IsOneMore}
 use Rattle.xn_track.specs.Steps.{with_walk}
 use Rattle.xn_loose.proofs.OneMore.{one_more_low, within_total}
 use Rattle.xn_track.proofs.Loose.{not_walked}
-use Rattle.xn_track.proofs.Rising.{distinct-rising, rising-from_increasing}
 use Rattle.xn_track.proofs.Tally.{but, but_there, same_total, times-flat_map, total-le, total-out}
 
 -- a corner of each node

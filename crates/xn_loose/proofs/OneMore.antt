@@ -1,12 +1,13 @@
 -- Sums over the edges and one more.
-use Rattle.std.proofs.Common.{◌≡◌, ◌≢◌, ℕ, ◌+◌, ◌<◌, ◌≤◌, ◌⊎◌, inl, inr, true, List, [], ◌∷◌, length, refl, sym, ◌∙◌, ap, arith}
+use Rattle.std.proofs.Common.{◌≡◌, ◌≢◌, ℕ, ◌+◌, ◌<◌, ◌≤◌, ◌⊎◌, inl, inr, true, List, [], ◌∷◌, refl, sym, ◌∙◌, ap, arith}
 use Rattle.std.specs.List.{IsDistinct}
 use Rattle.std.specs.Prelude.{nat_eq}
 use Rattle.std.proofs.lemmas.Bool.{both_ways, cases_Bool, cases_eq}
 use Rattle.xn_model.specs.Lists.{has, total}
+use Rattle.xn_fewer.proofs.Has.{has-first, has-later}
+use Rattle.xn_fewer.proofs.Rising.{has-all}
 use Rattle.xn_loose.specs.Inserting.{IsOneMore}
-use Rattle.xn_track.proofs.Has.{all_not, has-first, has-later}
-use Rattle.xn_track.proofs.Rising.{has-all}
+use Rattle.xn_track.proofs.Places.{all_not}
 use Rattle.xn_track.proofs.Tally.{but, but_here, but_there, total-out}
 
 -- the new edge is one of the graph's

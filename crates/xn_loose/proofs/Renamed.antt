@@ -16,11 +16,12 @@ use Rattle.xn_model.specs.Web.{crossing_node, crossing_number_in, first_segment,
 use Rattle.xn_model.proofs.Ranges.{edge_list, has-range_past}
 use Rattle.xn_ring.proofs.Counting.{same_tests}
 use Rattle.xn_surgery.proofs.OverlayComponents.{EndsIn-both}
+use Rattle.xn_fewer.proofs.Has.{has-first, has-later, has-map}
+use Rattle.xn_fewer.proofs.Rising.{Rising, all_made, all_of, distinct-rising, rising-from_increasing}
 use Rattle.xn_loose.specs.Renaming.{DrawingsOfEdgesAreDrawings, graph_of, renumbered}
 use Rattle.xn_track.specs.Tidying.{IsDrawingOf}
-use Rattle.xn_track.proofs.Has.{all_not, has-at, has-first, has-later, has-map, has-mapped, positions_apart}
+use Rattle.xn_track.proofs.Places.{all_not, has-at, has-mapped, positions_apart}
 use Rattle.xn_loose.proofs.InWeb.{at-map, at_position}
-use Rattle.xn_track.proofs.Rising.{Rising, all_made, all_of, distinct-rising, rising-from_increasing}
 use Rattle.xn_track.proofs.RunsOfAll.{has-range, map-map}
 
 abbrev both : (ℕ → ℕ) → ℕ × ℕ → ℕ × ℕ

@@ -12,17 +12,17 @@ use Rattle.xn_model.proofs.Darts.{reverse_apart, reverse_below}
 use Rattle.xn_genus.proofs.Compress.{half_reverse, tail_in}
 use Rattle.xn_genus.proofs.Kept.{EndsIn_at}
 use Rattle.xn_surgery.specs.Splitting.{IsSplit}
+use Rattle.xn_fewer.proofs.Has.{has-first, has-later}
+use Rattle.xn_fewer.proofs.Rising.{distinct-rising, has-all, rising-from_increasing}
 use Rattle.xn_track.specs.Relinking.{Leads}
 use Rattle.xn_track.specs.Tidying.{HasDrawingOf}
 use Rattle.xn_loose.specs.Touching.{IsMesh, MeshesGiveDrawings}
 use Rattle.xn_track.specs.Track.{IsGround, IsTrack, passed, straight_on}
 use Rattle.xn_track.proofs.Exchange.{StandsIn, move, stands_all, stands_first, stands_later}
-use Rattle.xn_track.proofs.Has.{has-first, has-later}
 use Rattle.xn_track.proofs.Loose.{crossing_by_count, none_below}
 use Rattle.xn_track.proofs.Passes.{walked_apart}
 use Rattle.xn_track.proofs.Paths.{Path, from_path, path_ends_in, path_map, path_seam, times-append}
 use Rattle.xn_track.proofs.Relink.{a_to_b, after_far, all, at_node, b_to_a, c_to_d, d_to_c, fewer, fewer_count, fewer_far, is_split, new_ground, others, split_ends, split_turns, tail_far}
-use Rattle.xn_track.proofs.Rising.{distinct-rising, has-all, rising-from_increasing}
 use Rattle.xn_track.proofs.Seams.{reverse_other}
 use Rattle.xn_track.proofs.Simplify.{all_or, tracks_give_drawings}
 use Rattle.xn_track.proofs.Tally.{times-flat_map, total-one, total-two}

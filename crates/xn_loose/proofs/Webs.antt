@@ -1,8 +1,8 @@
 -- A planarised graph is a mesh, and a drawing is loose.
-use Rattle.std.proofs.Common.{◌≡◌, ◌≢◌, ℕ, zero, suc, ◌+◌, ◌-◌, ◌*◌, ◌<◌, ◌≤◌, ◌⊎◌, inl, inr, true, false, eqb, List, [], ◌∷◌, length, map, refl, sym, ◌∙◌, ap, subst, arith}
+use Rattle.std.proofs.Common.{◌≡◌, ◌≢◌, ℕ, zero, suc, ◌+◌, ◌-◌, ◌*◌, ◌<◌, ◌≤◌, ◌⊎◌, inl, inr, true, eqb, List, [], ◌∷◌, length, map, refl, sym, ◌∙◌, ap, subst, arith}
 use Rattle.std.specs.List.{IsDistinct, flat_map}
 use Rattle.std.specs.Prelude.{nat_eq}
-use Rattle.std.proofs.lemmas.Bool.{both_ways, cases_eq, cases_order, eq-eqb, eqb-true, ne_eqb, or_cases}
+use Rattle.std.proofs.lemmas.Bool.{cases_eq, cases_order, eq-eqb, eqb-true}
 use Rattle.std.proofs.lemmas.List.{length-map}
 use Rattle.xn_model.specs.Graph.{Graph, IsGraph, ends_at}
 use Rattle.xn_model.specs.Lists.{at, has, position_in}
@@ -14,18 +14,17 @@ use Rattle.xn_model.specs.Web.{crossing_node, first_segment, segments_of, web_of
 use Rattle.xn_model.proofs.Darts.{cases_dart, tail-even, tail-odd}
 use Rattle.xn_ring.proofs.Counting.{count-same, same_tests}
 use Rattle.xn_genus.proofs.Kept.{EndsIn_at}
+use Rattle.xn_fewer.proofs.Crossings.{IsCross, crossing_at, crossings_apart, node_apart, node_facts, node_turned, not_of_itself}
+use Rattle.xn_fewer.proofs.Rising.{Rising, distinct-rising, has-all, rising-from_increasing}
 use Rattle.xn_loose.specs.Touching.{IsMesh}
 use Rattle.xn_track.specs.Track.{passed}
 use Rattle.xn_loose.specs.Webs.{DrawingsAreLoose, LeastIsOfAllDrawings, TouchingOrdersGiveDrawings, WebsAreMeshes, walk_in_web}
 use Rattle.xn_track.proofs.Blocks.{at_place, blocks_apart, found_at, place, place-first_segment, place-same, place_in, size_of}
-use Rattle.xn_track.proofs.Crossings.{IsCross, crossing_at, crossings_apart, node_apart, node_facts, node_turned}
-use Rattle.xn_track.proofs.Has.{has-at, place_of, positions_apart}
+use Rattle.xn_track.proofs.Places.{has-at, place_of, positions_apart}
 use Rattle.xn_loose.proofs.Fours.{four_distinct, listed_has, of_four}
 use Rattle.xn_loose.proofs.InWeb.{at-map, at_most_once, at_position, count_listed, darts-length, darts_at, straight_from, through-length, through_first, through_last, through_mid, walks_from}
 use Rattle.xn_track.proofs.Loose.{crossing_by_count}
-use Rattle.xn_track.proofs.OrdersAlong.{not_of_itself}
 use Rattle.xn_track.proofs.Passes.{one_walked, passed-length, passed_at}
-use Rattle.xn_track.proofs.Rising.{Rising, distinct-rising, has-all, rising-from_increasing}
 use Rattle.xn_track.proofs.Simplify.{all_edges_drawn, loose_drawings_give_simple_ones}
 use Rattle.xn_loose.proofs.Touch.{meshes_give_drawings}
 

@@ -1,5 +1,5 @@
 -- The edge that goes round its loop.
-use Rattle.std.proofs.Common.{◌≡◌, ℕ, ◌<◌, Bool, List, [], ◌∷◌, refl, arith}
+use Rattle.std.proofs.Common.{◌≡◌, ℕ, Bool, [], ◌∷◌, refl, arith}
 use Rattle.xn_model.specs.Examples.{curled_turns, curled_web, one_edge}
 use Rattle.xn_model.specs.Graph.{Graph}
 use Rattle.xn_model.specs.Lists.{at}

@@ -2,17 +2,18 @@
 use Rattle.std.proofs.Common.{◌≡◌, ◌≢◌, ℕ, ◌+◌, ◌<◌, ◌⊎◌, inl, inr, Bool, true, false, not, eqb, List, [], ◌∷◌, length, map, refl, sym, ◌∙◌, ap, subst, arith}
 use Rattle.std.specs.List.{IsDistinct, list_any}
 use Rattle.std.specs.Prelude.{filter, nat_eq}
-use Rattle.std.proofs.lemmas.Bool.{and_from, and_parts, both_ways, cases_Bool, cases_eq, cond-true, cond-false, eq-eqb, eqb-false, ne_eqb, not-true, or_left}
-use Rattle.xn_model.specs.Graph.{Graph, Independent, IsGraph, ends_at, independent, touches}
+use Rattle.std.proofs.lemmas.Bool.{and_from, and_parts, both_ways, cases_Bool, cases_eq, cond-true, cond-false, eqb-false, ne_eqb, not-true}
+use Rattle.xn_model.specs.Graph.{Graph, IsGraph}
 use Rattle.xn_model.specs.Lists.{at, has}
 use Rattle.xn_model.specs.Orders.{IsOrders}
+use Rattle.xn_fewer.proofs.Crossings.{IsCross}
+use Rattle.xn_fewer.proofs.Has.{has-first, has-kept, has-later, has-map, has-picked}
+use Rattle.xn_fewer.proofs.Rising.{Rising, all_made, rising-from_increasing}
 use Rattle.xn_track.specs.Tidying.{first_passing, is_met, is_other, order_along, other_at}
 use Rattle.xn_track.specs.Track.{IsTrack, MeetSimply, passed}
 use Rattle.xn_track.proofs.Blocks.{blocks_apart}
-use Rattle.xn_track.proofs.Crossings.{IsCross}
-use Rattle.xn_track.proofs.Has.{all_not, any_from, has-first, has-kept, has-later, has-map, has-mapped, has-picked, place_of}
+use Rattle.xn_track.proofs.Places.{all_not, any_from, has-mapped, place_of}
 use Rattle.xn_track.proofs.Passes.{Gap, begin, size_is, two_gaps}
-use Rattle.xn_track.proofs.Rising.{Rising, all_made, rising-from_increasing}
 
 pub first_passing_is : (p : ℕ → Bool) (xs : List ℕ) → list_any p xs ≡ true → (has xs (first_passing p xs) ≡ true) × (p (first_passing p xs) ≡ true)
 first_passing_is p [] h = absurd (both_ways false refl h)
@@ -27,13 +28,6 @@ first_passing_is p (x ∷ xs) h =
           let is : first_passing p (x ∷ xs) ≡ first_passing p xs = cond-false _ _ _ fails in
           subst P (sym is) (has-later x xs (first_passing p xs) rest.0, rest.1)
     ]
-
--- an edge isn't independent of itself
-pub not_of_itself : (ends : List (ℕ × ℕ)) (e f : ℕ) → Independent ends e f → e ≢ f
-not_of_itself ends e f free same =
-    let own : independent ends f f ≡ true = ap (λ x. independent ends x f) (sym same) ∙ free in
-    let parts : (not (touches (ends_at ends f) (ends_at ends f).0) ≡ true) × (not (touches (ends_at ends f) (ends_at ends f).1) ≡ true) = and_parts _ _ own in
-    both_ways _ (not-true _ parts.0) (or_left _ _ (eq-eqb (ends_at ends f).0 (ends_at ends f).0 refl))
 
 -- a map that keeps what passes apart leaves no repeats
 pub distinct-map : (f : ℕ → ℕ) (p : ℕ → Bool) (xs : List ℕ) → IsDistinct nat_eq xs →

@@ -1,5 +1,5 @@
 -- The runs of all walks, the ends of a web's segments, and nodes without darts that go.
-use Rattle.std.proofs.Common.{◌≡◌, ◌≢◌, ℕ, zero, suc, ◌+◌, ◌*◌, ◌<◌, ◌≤◌, inl, inr, true, false, eqb, List, [], ◌∷◌, ◌++◌, length, map, refl, sym, ◌∙◌, ap, subst, arith, length-append}
+use Rattle.std.proofs.Common.{◌≡◌, ◌≢◌, ℕ, zero, suc, ◌+◌, ◌*◌, ◌<◌, ◌≤◌, inl, inr, true, false, eqb, List, [], ◌∷◌, length, map, refl, sym, ◌∙◌, ap, subst, arith, length-append}
 use Rattle.std.specs.List.{IsDistinct, flat_map, range_with_len}
 use Rattle.std.specs.Prelude.{nat_eq}
 use Rattle.std.proofs.lemmas.Bool.{both_ways, cases_eq, cond-true, cond-false, eq-eqb, ne_eqb, or_cases, eqb-true}
@@ -7,13 +7,12 @@ use Rattle.std.proofs.lemmas.List.FromFn.{length-range_with_len, get_or-range_wi
 use Rattle.xn_model.specs.Graph.{EndsIn}
 use Rattle.xn_model.specs.Lists.{at, has, position_in}
 use Rattle.xn_model.specs.Map.{MeetsEuler, IsMap, tail_of}
-use Rattle.xn_model.specs.Web.{segments_through}
 use Rattle.xn_genus.specs.Renumbering.{IsNodeRemoval}
 use Rattle.xn_genus.proofs.Compress.{tail_in}
 use Rattle.xn_genus.proofs.Nodes.{components_fewer, faces_fewer, lone_from, map_fewer}
-use Rattle.xn_surgery.proofs.OverlayComponents.{EndsIn-both}
+use Rattle.xn_fewer.proofs.Has.{has-first, has-later}
 use Rattle.xn_track.proofs.Blocks.{place, place_here, place_past, size_of}
-use Rattle.xn_track.proofs.Has.{all_not, has-at, has-first, has-later}
+use Rattle.xn_track.proofs.Places.{all_not, has-at}
 use Rattle.xn_track.proofs.Runs.{Chained, Match, chained-append, match-append}
 
 pub chained_all : (P : ℕ → Type 0) (walks : ℕ → List ℕ) (f : ℕ → List (ℕ × ℕ)) (es : List ℕ) → IsDistinct nat_eq es → (o end : ℕ) → end ≡ o + length (flat_map walks es) →
@@ -44,16 +43,6 @@ map-map f h [] = refl
 map-map f h (x ∷ xs) = ap (λ ys. f (h x) ∷ ys) (map-map f h xs)
 
 -- ---- ends of segments
-
-pub ends-through : (n u v : ℕ) (mid : ℕ → ℕ) (xs : List ℕ) → ((x : ℕ) → has xs x ≡ true → mid x < n) → u < n → v < n → EndsIn n (segments_through u (map mid xs) v)
-ends-through n u v mid [] each u_in v_in = (u_in, v_in, tt)
-ends-through n u v mid (x ∷ xs) each u_in v_in =
-    let here = each x (has-first x xs) in
-    (u_in, here, ends-through n (mid x) v mid xs (λ y y_in. each y (has-later x xs y y_in)) here v_in)
-
-pub ends-flat_map : (n : ℕ) (f : ℕ → List (ℕ × ℕ)) (es : List ℕ) → ((e : ℕ) → has es e ≡ true → EndsIn n (f e)) → EndsIn n (flat_map f es)
-ends-flat_map n f [] each = tt
-ends-flat_map n f (e ∷ es) each = EndsIn-both n (f e) (flat_map f es) (each e (has-first e es)) (ends-flat_map n f es (λ x x_in. each x (has-later e es x x_in)))
 
 pub ends-more : (n m : ℕ) (ps : List (ℕ × ℕ)) → n ≤ m → EndsIn n ps → EndsIn m ps
 ends-more n m [] low h = tt
