@@ -39,13 +39,13 @@ ends-append : (n : ℕ) (ps qs : List (ℕ × ℕ)) → EndsIn n ps → EndsIn n
 ends-append n [] qs one two = two
 ends-append n (p ∷ ps) qs one two = (one.0, one.1, ends-append n ps qs one.2 two)
 
-ends-through : (n u v : ℕ) (mid : ℕ → ℕ) (xs : List ℕ) → ((x : ℕ) → has xs x ≡ true → mid x < n) → u < n → v < n → EndsIn n (segments_through u (map mid xs) v)
+pub ends-through : (n u v : ℕ) (mid : ℕ → ℕ) (xs : List ℕ) → ((x : ℕ) → has xs x ≡ true → mid x < n) → u < n → v < n → EndsIn n (segments_through u (map mid xs) v)
 ends-through n u v mid [] each u_in v_in = (u_in, v_in, tt)
 ends-through n u v mid (x ∷ xs) each u_in v_in =
     let here = each x (has-first x xs) in
     (u_in, here, ends-through n (mid x) v mid xs (λ y y_in. each y (has-later x xs y y_in)) here v_in)
 
-ends-flat_map : (n : ℕ) (f : ℕ → List (ℕ × ℕ)) (es : List ℕ) → ((e : ℕ) → has es e ≡ true → EndsIn n (f e)) → EndsIn n (flat_map f es)
+pub ends-flat_map : (n : ℕ) (f : ℕ → List (ℕ × ℕ)) (es : List ℕ) → ((e : ℕ) → has es e ≡ true → EndsIn n (f e)) → EndsIn n (flat_map f es)
 ends-flat_map n f [] each = tt
 ends-flat_map n f (e ∷ es) each = ends-append n (f e) (flat_map f es) (each e (has-first e es)) (ends-flat_map n f es (λ x x_in. each x (has-later e es x x_in)))
 

@@ -1,0 +1,16 @@
+pub mod Across
+pub mod Divide
+pub mod Fours
+pub mod Growing
+pub mod InWeb
+pub mod Inserted
+pub mod IntoLoose
+pub mod Joining
+pub mod Land
+pub mod OneMore
+pub mod Renamed
+pub mod RoutesThere
+pub mod Shortest
+pub mod Touch
+pub mod Webs
+pub mod Within

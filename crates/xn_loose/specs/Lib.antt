@@ -1,0 +1,6 @@
+pub mod Touching
+pub mod Webs
+pub mod Routes
+pub mod Inserting
+pub mod Renaming
+pub mod Shortest

@@ -1,0 +1,49 @@
+//! Laws on loose drawings. Each is the contract of a function with an empty body.
+ghost use Rattle.xn_loose.specs.Inserting.{EdgesComeIn, EdgesComeIntoLooseDrawings, EdgesJoinComponents};
+ghost use Rattle.xn_loose.specs.Renaming.{DrawingsOfEdgesAreDrawings};
+ghost use Rattle.xn_loose.specs.Routes.{FacesHaveNames, StepsAcross, StepsWithin};
+ghost use Rattle.xn_loose.specs.Shortest.{EdgesComeInByLeastRoutes, LeastRoutesAreSimple, RouteLengthsAreThere, RoutesAreThere, RoutesBecomeSimple, SimpleRoutesAreRoutes};
+ghost use Rattle.xn_loose.specs.Touching.{MeshesGiveDrawings};
+ghost use Rattle.xn_loose.specs.Webs.{DrawingsAreLoose, LeastIsOfAllDrawings, TouchingOrdersGiveDrawings, WebsAreMeshes};
+
+/// Where walks touch they come apart, so that a drawing is left.
+pub fn touching()
+    ensures { MeshesGiveDrawings }
+{}
+
+/// A planarised graph is a mesh and a drawing a loose one, so what bounds the simple drawings bounds all.
+pub fn drawings_in_webs()
+    ensures meshes { WebsAreMeshes }
+    ensures loose { DrawingsAreLoose }
+    ensures touching { TouchingOrdersGiveDrawings }
+    ensures least { LeastIsOfAllDrawings }
+{}
+
+/// A new edge steps across a segment within a face: flat stays flat, and the other faces stay as they are.
+pub fn routes()
+    ensures names { FacesHaveNames }
+    ensures across { StepsAcross }
+    ensures within { StepsWithin }
+{}
+
+/// An edge comes into a track along a route from face to face, with a crossing for each segment on the way.
+pub fn inserting()
+    ensures track { EdgesComeIn }
+    ensures loose { EdgesComeIntoLooseDrawings }
+    ensures apart { EdgesJoinComponents }
+{}
+
+/// Joined nodes have a route, a least one meets no face twice, and along it an edge comes in with as many crossings as it is long.
+pub fn shortest_routes()
+    ensures there { RoutesAreThere }
+    ensures routes { SimpleRoutesAreRoutes }
+    ensures simple { RoutesBecomeSimple }
+    ensures least { LeastRoutesAreSimple }
+    ensures length { RouteLengthsAreThere }
+    ensures comes { EdgesComeInByLeastRoutes }
+{}
+
+/// A drawing of some edges is a drawing of the graph of those edges.
+pub fn renaming()
+    ensures { DrawingsOfEdgesAreDrawings }
+{}
