@@ -14,8 +14,8 @@ use crate::judging::{checked, drawn, examined};
 use crate::status::Status;
 use std::alloc::Global;
 use xn_check::laws::{accepted_bounds, one_outcome};
-use xn_io::{Input, Sink, write_all};
 use xn_command::{Command, WordsErr, read_words};
+use xn_io::{Input, Sink, write_all};
 
 /// Does all that the program does: reads the words, reads the files that they name, judges the answer, and writes what
 /// belongs to that.
