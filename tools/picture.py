@@ -3,13 +3,17 @@
 
 networkx finds places for the nodes that keep the turns of the darts, so each segment is a straight line and none meets another but at a
 node. Of parallel segments all but one have two bends. An edge is one line in a colour of its own; where it crosses another, a small ring
-stands. Nothing here is proved: the drawing is what `draw` wrote, and the picture is a way to look at it.
+stands, at which the lines may bend, at the rim sharply. Nothing here is proved: the drawing is what `draw` wrote, and the picture is a
+way to look at it. Without networkx it says so and ends with 1.
 """
 import collections
 import re
 import sys
 
-import networkx
+try:
+    import networkx
+except ImportError:
+    sys.exit("picture.py: networkx is missing")
 
 NODE = re.compile(r'  node \[ id (\d+) (?:label "(-?\d+)" )?kind "(?:input|crossing)" turn "([\d ]*)" \]')
 SEGMENT = re.compile(r"  edge \[ id (\d+) source (\d+) target (\d+) of (\d+) \]")
