@@ -67,6 +67,20 @@ def start_of(name, number):
     return min(sum(len(line) + 1 for line in lines[: number - 1]), sum(map(len, lines)) + len(lines) - 1)
 
 
+# Where a refusal at the line `drawn` names an edge or a dart: the key of its lines, and how many darts or edges a line has.
+EARLIER = {"order": ("along", 1), "dependent": ("along", 1), "touch": ("along", 1), "rotation": ("turn", 2), "count": ("bounds", 0)}
+
+
+def show_earlier(name, kind, words):
+    """Shows the line of an edge or a dart that a refusal names."""
+    key, each = EARLIER[kind]
+    with open(name, encoding="utf-8", errors="replace") as file:
+        found = [(number, line.rstrip("\n")) for number, line in enumerate(file, 1) if line.split(" ")[0] == key]
+    place = int(words.split()[0]) // each if each else 0
+    if place < len(found):
+        print("see %s:%d: %s" % (name, *found[place]))
+
+
 def explain(files, line):
     """Whether the line is a refusal, which is then shown."""
     if found := re.fullmatch(r"xnum: graph text refused: (.+?)(?: at (\d+))?", line):
@@ -75,8 +89,10 @@ def explain(files, line):
             show(files[0], int(found[2]), hint)
         else:
             print(f"{files[0]}: {hint}")
-    elif found := re.fullmatch(r"refused (\d+) ([\w-]+).*", line):
+    elif found := re.fullmatch(r"refused (\d+) ([\w-]+)(.*)", line):
         show(files[-1], start_of(files[-1], int(found[1])), ANSWER_HINTS.get(found[2], ""))
+        if found[2] in EARLIER:
+            show_earlier(files[-1], found[2], found[3])
     else:
         return False
     return True
