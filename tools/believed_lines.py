@@ -1,9 +1,9 @@
 #!/usr/bin/env python3
 """Counts the definitions that a reader of a clause must believe: all that it names, and what those name in turn.
 
-Usage: tools/believed_lines.py FILE FUNCTION [CLAUSE]      such as crates/xn_app/src/top_call.rt top bounds
-Prints the files with their lines (no blanks, no comments), the sum, and how many words of the standard library are among
-the names. Names are followed through the `use` lines, so a name that two words share may count one too many.
+Usage: tools/believed_lines.py [--crates] FILE FUNCTION [CLAUSE]      such as crates/xn_app/src/top_call.rt top bounds
+Prints the files with their lines (no blanks, no comments), or with --crates the crates with their lines and files, then
+the sum, and how many words of the standard library are among the names. Names are followed through the `use` lines, so a name that two words share may count one too many.
 """
 import os
 import re
@@ -118,14 +118,29 @@ def clause_text(source, function, label):
     return re.sub(r"//.*", "", "\n".join(clauses))
 
 
+def by_crate(lines):
+    """Prints for each crate how many lines stand in which of its files."""
+    crates = {}
+    for path in sorted(lines):
+        crates.setdefault(path.split("/")[1], []).append(path)
+    for crate, paths in sorted(crates.items(), key=lambda it: -sum(len(lines[path]) for path in it[1])):
+        names = ", ".join(path.split("/", 2)[2] for path in paths)
+        print(f"{sum(len(lines[path]) for path in paths):5} {crate}: {names}")
+
+
 def main():
-    path, function, label = (sys.argv[1:] + [None])[:3]
+    words = sys.argv[1:]
+    is_by_crate = words[:1] == ["--crates"]
+    path, function, label = (words[is_by_crate:] + [None])[:3]
     with open(path, encoding="utf-8") as file:
         source = file.read()
     reader = Reader()
     reader.follow(clause_text(source, function, label), *imports(source), None)
-    for name, lines in sorted(reader.lines.items(), key=lambda it: -len(it[1])):
-        print(f"{len(lines):5} {name}")
+    if is_by_crate:
+        by_crate(reader.lines)
+    else:
+        for name, lines in sorted(reader.lines.items(), key=lambda it: -len(it[1])):
+            print(f"{len(lines):5} {name}")
     total = sum(len(it) for it in reader.lines.values())
     print(f"{total:5} lines of {len(reader.seen)} definitions in {len(reader.lines)} files, and {len(reader.std)} words of std")
 
