@@ -97,10 +97,22 @@ module _ (g : Graph) (is_graph : IsGraph g) (edges small : List ℕ) (ord less :
   Small e f = IsCross g.nodes small small_rising less some.both_ways e f
 
   big_cross : (e f : ℕ) → has (ord e) f ≡ true → Big e f
-  big_cross e f crosses = record { e_in = all.within e f crosses; f_in = all.within f e (all.both_ways e f crosses); crosses = crosses; differ = not_of_itself g.ends e f (all.independent e f crosses) }
+  big_cross e f crosses = record {
+    e_in = all.within e f crosses;
+    f_in = all.within f e (all.both_ways e f crosses);
+    crosses = crosses;
+    differ = not_of_itself g.ends e f
+        (all.independent e f crosses);
+  }
 
   small_cross : (e f : ℕ) → has (less e) f ≡ true → Small e f
-  small_cross e f crosses = record { e_in = some.within e f crosses; f_in = some.within f e (some.both_ways e f crosses); crosses = crosses; differ = not_of_itself g.ends e f (some.independent e f crosses) }
+  small_cross e f crosses = record {
+    e_in = some.within e f crosses;
+    f_in = some.within f e (some.both_ways e f crosses);
+    crosses = crosses;
+    differ = not_of_itself g.ends e f
+        (some.independent e f crosses);
+  }
 
   -- ---- the web, with these edges and the crossings among them alone
 

@@ -80,7 +80,8 @@ module _ (ends part : List (ℕ × ℕ)) (σ : ℕ → ℕ) (is : IsSelection en
         | inr turned ↦ (1 - j % 2, omega arith, ap (λ b. 2 * σ (j / 2) + b) (turned.1 (j % 2)))
       ]
 
-  both_numbers : (i : ℕ) → i < length part → ((dart (2 * i) ≡ 2 * σ i) × (dart (2 * i + 1) ≡ 2 * σ i + 1) × ((ends_at part i).0 ≡ (ends_at ends (σ i)).0) × ((ends_at part i).1 ≡ (ends_at ends (σ i)).1))
+  both_numbers : (i : ℕ) → i < length part → ((dart (2 * i) ≡ 2 * σ i) × (dart (2 * i + 1) ≡ 2 * σ i + 1) × ((ends_at part i).0 ≡ (ends_at ends (σ i)).0) ×
+      ((ends_at part i).1 ≡ (ends_at ends (σ i)).1))
       ⊎ ((dart (2 * i) ≡ 2 * σ i + 1) × (dart (2 * i + 1) ≡ 2 * σ i) × ((ends_at part i).0 ≡ (ends_at ends (σ i)).1) × ((ends_at part i).1 ≡ (ends_at ends (σ i)).0))
   both_numbers i i_in = elim (cases_bit i i_in) [
     | inl as_is ↦ inl (omega (arith, even_dart i, as_is.1 0), omega (arith, odd_dart i, as_is.1 1), as_is.0.0, as_is.0.1)

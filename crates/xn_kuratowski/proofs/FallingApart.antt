@@ -115,7 +115,8 @@ any_paired i o i_in o_in other =
     ]
 
 -- class i falls into S, beside p and q, and T, beside r and s
-module _ (web : Graph) (ends_in : EndsIn web.nodes web.ends) (class : ℕ → ℕ) (is : IsMinor web.ends 5 five_pairs class) (i p q r s : ℕ) (i_in : i < 5) (p_in : p < 5) (q_in : q < 5) (r_in : r < 5) (s_in : s < 5)
+module _ (web : Graph) (ends_in : EndsIn web.nodes web.ends) (class : ℕ → ℕ) (is : IsMinor web.ends 5 five_pairs class) (i p q r s : ℕ) (i_in : i < 5) (p_in : p < 5)
+    (q_in : q < 5) (r_in : r < 5) (s_in : s < 5)
     (apart_i : (i ≢ p) × (i ≢ q) × (i ≢ r) × (i ≢ s)) (apart : (p ≢ q) × (p ≢ r) × (p ≢ s) × (q ≢ r) × (q ≢ s) × (r ≢ s))
     (lo hi lo' hi' : ℕ) (f f' : ℕ → ℕ) (S : IsUnion web.ends class i lo hi lo' hi' f f') (mo mi mo' mi' : ℕ) (g g' : ℕ → ℕ) (T : IsUnion web.ends class i mo mi mo' mi' g g')
     (disjoint : (w : ℕ) → on_union lo hi lo' hi' f f' w ≡ true → on_union mo mi mo' mi' g g' w ≡ true → ⊥) where
@@ -167,7 +168,8 @@ module _ (web : Graph) (ends_in : EndsIn web.nodes web.ends) (class : ℕ → �
   new_other w other = cond-false _ _ _ (ne_eqb _ _ other)
 
   -- what is in a new class
-  cases_new : (w : ℕ) → ((class w ≡ i) × (in_S w ≡ true) × (new w ≡ 0)) ⊎ (((class w ≡ i) × (in_T w ≡ true) × (new w ≡ 3)) ⊎ (((class w ≡ i) × (new w ≡ 9)) ⊎ ((class w ≢ i) × (new w ≡ label (class w)))))
+  cases_new : (w : ℕ) → ((class w ≡ i) × (in_S w ≡ true) × (new w ≡ 0)) ⊎ (((class w ≡ i) × (in_T w ≡ true) × (new w ≡ 3)) ⊎
+      (((class w ≡ i) × (new w ≡ 9)) ⊎ ((class w ≢ i) × (new w ≡ label (class w)))))
   cases_new w = elim (cases_eq (class w) i) [
     | inr other ↦ inr (inr (inr (other, new_other w other)))
     | inl here ↦ elim (cases_Bool (in_S w)) [
@@ -258,7 +260,8 @@ module _ (web : Graph) (ends_in : EndsIn web.nodes web.ends) (class : ℕ → �
       let at = (gt_is a b a_in b_in other).0 in
       new_other (gt a b) (λ e. not_i (sym at ∙ e)) ∙ ap label at ∙ named
 
-  module _ (S_p : in_S (gt i p) ≡ true) (S_q : in_S (gt i q) ≡ true) (T_r : in_T (gt i r) ≡ true) (T_s : in_T (gt i s) ≡ true) (u v : ℕ) (S_u : in_S u ≡ true) (T_v : in_T v ≡ true) (over : Adjacent ends u v) where
+  module _ (S_p : in_S (gt i p) ≡ true) (S_q : in_S (gt i q) ≡ true) (T_r : in_T (gt i r) ≡ true) (T_s : in_T (gt i s) ≡ true) (u v : ℕ) (S_u : in_S u ≡ true)
+      (T_v : in_T v ≡ true) (over : Adjacent ends u v) where
     pub split_minor : IsMinor ends 6 three_pairs new
     split_minor =
         let A : ℕ × ℕ → Type 0 = λ e. Adjoin ends new e.0 e.1 in

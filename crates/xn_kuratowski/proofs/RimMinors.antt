@@ -235,7 +235,8 @@ module _ (nodes : ℕ) (rest : List (ℕ × ℕ)) (x y : ℕ) (xs ys : List ℕ)
                 All-cons A (0, 3) ((0, 4) ∷ (0, 5) ∷ (1, 3) ∷ (1, 4) ∷ (1, 5) ∷ (2, 3) ∷ (2, 4) ∷ (2, 5) ∷ []) (x_to_y 0 3 9 four differ four_not)
                 (All-cons A (0, 4) ((0, 5) ∷ (1, 3) ∷ (1, 4) ∷ (1, 5) ∷ (2, 3) ∷ (2, 4) ∷ (2, 5) ∷ []) (x_to 0 3 9 four differ four_not 4 0 some at_0 x_0)
                 (All-cons A (0, 5) ((1, 3) ∷ (1, 4) ∷ (1, 5) ∷ (2, 3) ∷ (2, 4) ∷ (2, 5) ∷ []) (x_to 0 3 9 four differ four_not 5 b (omega (arith, b_c, c_in)) at_b x_b)
-                (All-cons A (1, 3) ((1, 4) ∷ (1, 5) ∷ (2, 3) ∷ (2, 4) ∷ (2, 5) ∷ []) (adjoin_turned 0 3 9 four differ four_not 3 1 (y_to 0 3 9 four differ four_not 1 a (omega (arith, a_b, b_c, c_in)) at_a y_a))
+                (All-cons A (1, 3) ((1, 4) ∷ (1, 5) ∷ (2, 3) ∷ (2, 4) ∷ (2, 5) ∷ [])
+                (adjoin_turned 0 3 9 four differ four_not 3 1 (y_to 0 3 9 four differ four_not 1 a (omega (arith, a_b, b_c, c_in)) at_a y_a))
                 (All-cons A (1, 4) ((1, 5) ∷ (2, 3) ∷ (2, 4) ∷ (2, 5) ∷ []) (adjoin_turned 0 3 9 four differ four_not 4 1
                 (next_cell 0 3 9 four differ four_not 4 1 (a - 1) (omega (arith, a_is, a_b, b_c, c_in)) before_a (ap four a_is ∙ at_a)))
                 (All-cons A (1, 5) ((2, 3) ∷ (2, 4) ∷ (2, 5) ∷ []) (next_cell 0 3 9 four differ four_not 1 5 (b - 1) (omega (arith, b_is, b_c, c_in)) before_b (ap four b_is ∙ at_b))
@@ -249,7 +250,8 @@ module _ (nodes : ℕ) (rest : List (ℕ × ℕ)) (x y : ℕ) (xs ys : List ℕ)
 
   -- ---- three neighbours of both
 
-  module _ (a b : ℕ) (a_some : 0 < a) (a_b : a < b) (b_in : b < l) (x_0 : IsHead xs (rim 0)) (y_0 : IsHead ys (rim 0)) (x_a : IsHead xs (rim a)) (y_a : IsHead ys (rim a)) (x_b : IsHead xs (rim b)) (y_b : IsHead ys (rim b)) where
+  module _ (a b : ℕ) (a_some : 0 < a) (a_b : a < b) (b_in : b < l) (x_0 : IsHead xs (rim 0)) (y_0 : IsHead ys (rim 0)) (x_a : IsHead xs (rim a)) (y_a : IsHead ys (rim a))
+      (x_b : IsHead xs (rim b)) (y_b : IsHead ys (rim b)) where
     abbrev three : ℕ → ℕ
     three j = cond (ltb j a) 2 (cond (ltb j b) 3 4)
 

@@ -66,7 +66,8 @@ module _ (nodes : ℕ) (rest : List (ℕ × ℕ)) (x y : ℕ) (xs ys : List ℕ)
   pub size_of_stars : length (web_of_stars rest x y xs ys) ≡ length rest + (length xs + (length ys + 1))
   size_of_stars =
       length-append rest (star x xs ++ (star y ys ++ (x, y) ∷ []))
-      ∙ ap (λ k. length rest + k) (length-append (star x xs) (star y ys ++ (x, y) ∷ []) ∙ ap₂ (λ a b. a + b) (length-star x xs) (length-append (star y ys) ((x, y) ∷ []) ∙ ap (λ a. a + 1) (length-star y ys)))
+      ∙ ap (λ k. length rest + k) (length-append (star x xs) (star y ys ++ (x, y) ∷ []) ∙ ap₂ (λ a b. a + b) (length-star x xs)
+      (length-append (star y ys) ((x, y) ∷ []) ∙ ap (λ a. a + 1) (length-star y ys)))
 
   pub ends_in_beside : EndsIn nodes (web_of_stars rest x y xs ys)
   ends_in_beside =

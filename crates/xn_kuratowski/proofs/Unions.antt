@@ -113,7 +113,8 @@ union_at_node nodes u first second share one two = elim (cases_Bool (is_lone fir
 
 -- ---- two nodes shared, and a segment between them in both
 
-module _ (nodes u v : ℕ) (first second : List (ℕ × ℕ)) (other : u ≢ v) (share : ShareOnlyTwo first second u v) (one : HasFlat nodes (first ++ (u, v) ∷ [])) (two : HasFlat nodes (second ++ (u, v) ∷ [])) where
+module _ (nodes u v : ℕ) (first second : List (ℕ × ℕ)) (other : u ≢ v) (share : ShareOnlyTwo first second u v) (one : HasFlat nodes (first ++ (u, v) ∷ []))
+    (two : HasFlat nodes (second ++ (u, v) ∷ [])) where
   abbrev left : List (ℕ × ℕ)
   left = first ++ (u, v) ∷ []
 
