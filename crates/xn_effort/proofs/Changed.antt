@@ -9,7 +9,7 @@ use Rattle.xn_kinds.specs.State.{State, Crosses, IsState, decide, place}
 use Rattle.xn_effort.specs.Potential.{is_one, ones_in, undecided_in, unplaced_at, unplaced_in}
 use Rattle.xn_effort.proofs.Sums.{is_pair, pair_once, same_pair, total_one}
 
-one_if-le : (b : Bool) → one_if b ≤ 1
+pub one_if-le : (b : Bool) → one_if b ≤ 1
 one_if-le true = omega arith
 one_if-le false = omega arith
 

@@ -2,7 +2,7 @@
 use Rattle.std.proofs.Common.{◌≡◌, ◌≢◌, ℕ, suc, ◌+◌, ◌≤◌, ◌⊎◌, inl, inr, Bool, true, false, ◌&&◌, ◌||◌, eqb, List, [], ◌∷◌, length, refl, sym, ◌∙◌, ap, subst, arith}
 use Rattle.std.specs.List.{AllByRecursion, IsDistinct}
 use Rattle.std.specs.Prelude.{nat_eq, not}
-use Rattle.std.proofs.lemmas.Bool.{both_ways, cases_Bool, and_parts, or_cases, eqb-true, eqb-false, eq-eqb, ne_eqb}
+use Rattle.std.proofs.lemmas.Bool.{both_ways, cases_Bool, and_parts, or_cases, eqb-true, eqb-false, eq-eqb, ne_eqb, or_parts}
 use Rattle.xn_model.specs.Graph.{Graph, edges_of, pairs_of}
 use Rattle.xn_model.specs.Lists.{has, one_if, total}
 use Rattle.xn_kinds.specs.State.{State, Crosses, IsState}
@@ -88,15 +88,11 @@ few_meet ps e (y ∷ ys) test distinct meets = elim meets.0 [
       omega (arith, rest, without_less ps test y e marked)
 ]
 
-neither : (a b : Bool) → (a || b) ≡ false → (a ≡ false) × (b ≡ false)
-neither true b h = absurd (both_ways true h refl)
-neither false b h = (refl, h)
-
 -- a number that isn't in the list is none of its elements
 unlike_each : (f : ℕ) (xs : List ℕ) → has xs f ≡ false → AllByRecursion (λ y. nat_eq f y ≡ false) xs
 unlike_each f [] out = tt
 unlike_each f (x ∷ xs) out =
-    let parts : (eqb x f ≡ false) × (has xs f ≡ false) = neither _ _ out in
+    let parts : (eqb x f ≡ false) × (has xs f ≡ false) = or_parts _ _ out in
     (ne_eqb f x (λ same. both_ways (eqb x f) parts.0 (eq-eqb x f (sym same))), unlike_each f xs parts.1)
 
 module _ (g : Graph) (s : State) (is_state : IsState g s) (e : ℕ) where

@@ -37,7 +37,8 @@ FinishedRoundsProve = (g : Graph) (t : ℕ) (rows : List Row) (nodes : List Node
 
 abbrev pub OpenRoundsBegin : Type 0
 OpenRoundsBegin =
-    (g : Graph) (t : ℕ) (rows : List Row) (nodes : List Node) (s : State) (left : List State) → HasOpened g t rows nodes (s ∷ left) → BeginsProof g t rows nodes
+    (g : Graph) (t : ℕ) (rows : List Row) (nodes : List Node) (s : State) (left : List State) →
+    HasOpened g t rows nodes (s ∷ left) → BeginsProof g t rows nodes
 
 -- what is pending are states of the graph
 abbrev pub PendingAreStates : Type 0
@@ -68,7 +69,8 @@ ShownRoundsAreBelow = (g : Graph) (k n : ℕ) → IsAtLeast g k → n < limit_up
 -- ---- rows grow while trees stand
 abbrev pub MoreRowsKeepRounds : Type 0
 MoreRowsKeepRounds =
-    (g : Graph) (t : ℕ) (rows more : List Row) (nodes : List Node) (left : List State) → HasOpened g t rows nodes left → HasOpened g t (rows ++ more) nodes left
+    (g : Graph) (t : ℕ) (rows more : List Row) (nodes : List Node) (left : List State) →
+    HasOpened g t rows nodes left → HasOpened g t (rows ++ more) nodes left
 
 abbrev pub MoreRowsKeepProofs : Type 0
 MoreRowsKeepProofs =

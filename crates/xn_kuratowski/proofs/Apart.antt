@@ -15,8 +15,9 @@ use Rattle.xn_genus.proofs.Kept.{EndsIn_at}
 use Rattle.xn_surgery.specs.Corners.{after}
 use Rattle.xn_surgery.specs.Splitting.{InArc, IsSplit}
 use Rattle.xn_surgery.proofs.Split.{flat_split, keeps_components, map_split, splits_a_face}
+use Rattle.xn_surgery.proofs.InsertFlat.{lone_apart}
 use Rattle.xn_fewer.specs.Flat.{HasFlat, both}
-use Rattle.xn_fewer.proofs.Flats.{Permutes-exchanged, bridge_flat, fewer_flat, inserted_flat, lone_not_joined, named_flat}
+use Rattle.xn_fewer.proofs.Flats.{Permutes-exchanged, bridge_flat, fewer_flat, inserted_flat, named_flat}
 use Rattle.xn_fewer.proofs.Lists.{at_back, at_both, at_front, at_last, cases_exchanged, exchanged, length-both, lone_ends}
 use Rattle.xn_kuratowski.proofs.Rim.{ArcsComeApart, AreArcs, HasArcs, AreStars, SmallStarsComeApart, star, web_of_stars, web_merged}
 use Rattle.xn_kuratowski.proofs.Splits.{arc_tail, split_turn, split_web, splits}
@@ -376,7 +377,7 @@ none_second : (nodes : ℕ) (rest : List (ℕ × ℕ)) (x y : ℕ) (xs : List �
 none_second nodes rest x y xs is has =
     let web_now = web_merged rest x xs [] in
     let apart : Joined web_now x y → ⊥ = λ joined.
-    lone_not_joined web_now y x (y_lone_merged nodes rest x y xs [] is) (λ same. is.two_ends (sym same)) (joined_sym web_now x y joined) in
+    lone_apart web_now y x (y_lone_merged nodes rest x y xs [] is) (λ same. is.two_ends (sym same)) (joined_sym web_now x y joined) in
     subst (HasFlat nodes) (closed nodes rest x y xs [] is) (bridge_flat nodes x y web_now is.x_in is.y_in apart has)
 
 -- no dart in the first
@@ -427,7 +428,7 @@ none_first nodes rest x y ys is has =
             | inr two ↦ (is.y_heads.below k 0 k_in).1 (ap (λ z. z.1) (sym e) ∙ two)
           ]
     ]) in
-    subst (HasFlat nodes) (closed nodes rest x y [] ys is) (bridge_flat nodes x y web_new is.x_in is.y_in (lone_not_joined web_new x y alone is.two_ends) renamed)
+    subst (HasFlat nodes) (closed nodes rest x y [] ys is) (bridge_flat nodes x y web_new is.x_in is.y_in (lone_apart web_new x y alone is.two_ends) renamed)
 
 pub small_stars : SmallStarsComeApart
 small_stars nodes rest x y [] ys is small has = none_first nodes rest x y ys is has

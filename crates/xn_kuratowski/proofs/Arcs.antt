@@ -59,7 +59,8 @@ module _ (ends : List (ℕ × ℕ)) (s t : ℕ) (s_in : s < length ends) (t_in :
   swapped_tail d =
       let c = cases_dart d in
       let one = cases_swapped d in
-      let tails : (a b : ℕ) → ends_at ends a ≡ ends_at ends b → (e : ℕ) → (d ≡ 2 * a) ⊎ (d ≡ 2 * a + 1) → swapped d ≡ 2 * b + d % 2 → tail_of ends d ≡ tail_of ends (swapped d) = λ a b alike e which is. elim which [
+      let tails : (a b : ℕ) → ends_at ends a ≡ ends_at ends b → (e : ℕ) → (d ≡ 2 * a) ⊎ (d ≡ 2 * a + 1) → swapped d ≡ 2 * b + d % 2 →
+      tail_of ends d ≡ tail_of ends (swapped d) = λ a b alike e which is. elim which [
         | inl even ↦
             let there : swapped d ≡ 2 * b = omega (arith, even, is) in
             ap (tail_of ends) even ∙ tail-even ends a ∙ ap (λ p. p.0) alike ∙ sym (tail-even ends b) ∙ ap (tail_of ends) (sym there)
@@ -139,7 +140,8 @@ ring_from_last ends next x n spokes ring = record {
 
 -- with two names changed
 pub ring_renamed : (ends : List (ℕ × ℕ)) (next : ℕ → ℕ) (x n : ℕ) (spokes : ℕ → ℕ) → IsRing ends next x n spokes → (s t : ℕ) (s_in : s < length ends) (t_in : t < length ends)
-    (same : ends_at ends s ≡ ends_at ends t) (other : s ≢ t) → IsRing ends (λ d. swapped ends s t s_in t_in same other (next (swapped ends s t s_in t_in same other d))) x n (λ i. swapped ends s t s_in t_in same other (spokes i))
+    (same : ends_at ends s ≡ ends_at ends t) (other : s ≢ t) → IsRing ends (λ d. swapped ends s t s_in t_in same other (next (swapped ends s t s_in t_in same other d))) x n
+    (λ i. swapped ends s t s_in t_in same other (spokes i))
 ring_renamed ends next x n spokes ring s t s_in t_in same other =
     let τ = swapped ends s t s_in t_in same other in
     let twice = swapped_twice ends s t s_in t_in same other in
@@ -157,7 +159,8 @@ ring_renamed ends next x n spokes ring s t s_in t_in same other =
 -- where the darts of the second star are those from the first place on, they are an arc
 module _ (nodes : ℕ) (rest : List (ℕ × ℕ)) (x : ℕ) (xs ys : List ℕ) (next : ℕ → ℕ) (n : ℕ) (spokes : ℕ → ℕ) (ring : IsRing (web_merged rest x xs ys) next x n spokes)
     (flat_map : IsFlat (record { nodes = nodes; ends = web_merged rest x xs ys }) next) (hi : ℕ) (hi_some : 1 < hi) (hi_in : hi ≤ n)
-    (start : is_second rest xs (spokes 0) ≡ false) (second : (i : ℕ) → 0 < i → i < hi → is_second rest xs (spokes i) ≡ true) (rest_first : (i : ℕ) → hi ≤ i → i < n → is_second rest xs (spokes i) ≡ false) where
+    (start : is_second rest xs (spokes 0) ≡ false) (second : (i : ℕ) → 0 < i → i < hi → is_second rest xs (spokes i) ≡ true)
+    (rest_first : (i : ℕ) → hi ≤ i → i < n → is_second rest xs (spokes i) ≡ false) where
   abbrev last : ℕ
   last = hi - 1
 
@@ -319,7 +322,8 @@ module _ (nodes : ℕ) (rest : List (ℕ × ℕ)) (x y : ℕ) (xs ys : List ℕ)
           let half_e : e / 2 ≡ length rest + (length xs + b.0) = omega (arith, b.2) in (
             omega (arith, d_in),
             omega (arith, e_in),
-            ap (ends_at ends) half_d ∙ web_first nodes rest x y xs ys is a.0 a.1 ∙ ap (λ v. (x, v)) (sym a.3 ∙ heads ∙ b.3) ∙ sym (web_second nodes rest x y xs ys is b.0 b.1) ∙ ap (ends_at ends) (sym half_e),
+            ap (ends_at ends) half_d ∙ web_first nodes rest x y xs ys is a.0 a.1 ∙ ap (λ v. (x, v)) (sym a.3 ∙ heads ∙ b.3) ∙ sym
+                (web_second nodes rest x y xs ys is b.0 b.1) ∙ ap (ends_at ends) (sym half_e),
             λ same. omega (arith, same, half_d, half_e, a.1),
             omega (arith, a.2),
             omega (arith, b.2),
@@ -377,7 +381,8 @@ module _ (nodes : ℕ) (rest : List (ℕ × ℕ)) (x y : ℕ) (xs ys : List ℕ)
           | inl none ↦ ap (λ j. is_y (τ (spokes j))) none ∙ ap is_y d_to ∙ label
           | inr more ↦ ap is_y (kept (i - 1) (omega (arith, more)) (omega (arith, low, less, some))) ∙ second (i - 1) (omega (arith, more)) (omega (arith, low, some))
         ])
-        (λ i high i_in. ap is_y (place i (omega (arith, high)) i_in) ∙ ap is_y (kept (i - 1) (omega (arith, high, hi_some)) (omega (arith, i_in, high))) ∙ rest_first (i - 1) (omega (arith, high)) (omega (arith, i_in, high)))
+        (λ i high i_in. ap is_y (place i (omega (arith, high)) i_in) ∙ ap is_y (kept (i - 1) (omega (arith, high, hi_some)) (omega (arith, i_in, high))) ∙ rest_first (i - 1)
+        (omega (arith, high)) (omega (arith, i_in, high)))
 
     pub arcs_of_ring : HasArcs nodes rest x xs ys
     arcs_of_ring = elim (cases_eq hi n) [

@@ -295,7 +295,8 @@ three_evidence web ends_in class is =
     let t : (s : ℕ) → ℕ = λ s. g i (three_other i s) in
     let own : (s : ℕ) → s < 3 → class (t s) ≡ i = λ s s_in. (at i (three_other i s) (three_paired i s i_in s_in)).0 in
     let one : (0 < 3) × (1 < 3) × (2 < 3) = (omega arith, omega arith, omega arith) in
-    let star = three_star web.ends class i (t 0) (t 1) (t 2) (own 0 one.0) (own 2 one.2) (is.joined i (t 0) (t 1) i_in (own 0 one.0) (own 1 one.1)) (is.joined i (t 2) (t 0) i_in (own 2 one.2) (own 0 one.0)) in
+    let star = three_star web.ends class i (t 0) (t 1) (t 2) (own 0 one.0) (own 2 one.2) (is.joined i (t 0) (t 1) i_in (own 0 one.0) (own 1 one.1))
+    (is.joined i (t 2) (t 0) i_in (own 2 one.2) (own 0 one.0)) in
     (star.0, star.1, star.2, star.3, star.4, three_stops star.2 t star.5 star.6 star.7)) in
     (found.0, found.1, (found.2, found.3))
   where

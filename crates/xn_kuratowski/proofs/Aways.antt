@@ -10,7 +10,7 @@ use Rattle.xn_model.proofs.Darts.{cases_dart, tail-even, tail-odd}
 use Rattle.xn_genus.proofs.Compress.{EndsIn_from}
 use Rattle.xn_genus.proofs.Kept.{EndsIn_at}
 use Rattle.xn_genus.proofs.Nodes.{lone_from}
-use Rattle.xn_fewer.proofs.Flats.{lone_not_joined}
+use Rattle.xn_surgery.proofs.InsertFlat.{lone_apart}
 use Rattle.xn_fewer.proofs.Walks.{filter_from, filter_to, joined_ends}
 use Rattle.xn_kuratowski.specs.Reduction.{away, is_clear}
 
@@ -86,7 +86,7 @@ avoided_alone avoid ends u z avoided other there =
           let is : (ends_at ends found.0).1 ≡ z = ap (λ p. p.1) (sym found.2) ∙ sym (tail-odd web c.0) ∙ ap (tail_of web) (sym odd) ∙ at in
           both_ways _ clear.1 (ap (has avoid) is ∙ avoided)
     ]) in
-    lone_not_joined web z u alone (λ same. other (sym same)) (joined_sym web u z there)
+    lone_apart web z u alone (λ same. other (sym same)) (joined_sym web u z there)
 
 pub EndsIn-away : (nodes : ℕ) (avoid : List ℕ) (ends : List (ℕ × ℕ)) → EndsIn nodes ends → EndsIn nodes (away avoid ends)
 EndsIn-away nodes avoid ends ends_in = EndsIn_from nodes (away avoid ends) (λ s s_in.

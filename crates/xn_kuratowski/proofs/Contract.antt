@@ -190,7 +190,8 @@ module _ (rest x : ℕ) (ends : List (ℕ × ℕ)) (x_in : x < rest) (has : HasF
       )
 
   -- the walk along the ring, up to the first time that it comes to d
-  same_walk : (d k : ℕ) → ((i : ℕ) → i < k → iterate next i a ≢ d) → iterate next k a ≡ d → (i : ℕ) → i ≤ k → (iterate turn i a ≡ iterate next i a) × (tail_of whole (iterate next i a) ≡ rest) × (iterate next i a < n)
+  same_walk : (d k : ℕ) → ((i : ℕ) → i < k → iterate next i a ≢ d) → iterate next k a ≡ d → (i : ℕ) → i ≤ k →
+      (iterate turn i a ≡ iterate next i a) × (tail_of whole (iterate next i a) ≡ rest) × (iterate next i a < n)
   same_walk d k early last zero low = (refl, tail_a, a_in)
   same_walk d k early last (suc i) low =
       let before = same_walk d k early last i (omega (arith, low)) in

@@ -52,7 +52,8 @@ module _ (web : Graph) (ends_in : EndsIn web.nodes web.ends) (class : ℕ → �
   abbrev Three : Type 0
   Three = (c : ℕ → ℕ) × IsMinor ends 6 three_pairs c
 
-  module _ (l : ℕ) (f : ℕ → ℕ) (P : InClass ends class i (T 0) (T 1) l f) (l2 : ℕ) (g : ℕ → ℕ) (Q : InClass ends class i (T 2) (T 0) l2 g) (l3 : ℕ) (h : ℕ → ℕ) (Z : InClass ends class i (T 3) (T 0) l3 h) where
+  module _ (l : ℕ) (f : ℕ → ℕ) (P : InClass ends class i (T 0) (T 1) l f) (l2 : ℕ) (g : ℕ → ℕ) (Q : InClass ends class i (T 2) (T 0) l2 g) (l3 : ℕ) (h : ℕ → ℕ)
+      (Z : InClass ends class i (T 3) (T 0) l3 h) where
     abbrev k : ℕ
     k = place_g ends class i (T 0) (T 1) (T 2) l f P l2 g Q
 
@@ -111,7 +112,8 @@ module _ (web : Graph) (ends_in : EndsIn web.nodes web.ends) (class : ℕ → �
       stop (suc (suc zero)) = T 2
       stop (suc (suc (suc s))) = T 3
 
-      three : IsStar ends class i 3 (f j) (three_long ends class i (T 0) (T 1) (T 2) l f P l2 g Q) (three_stop ends class i (T 0) (T 1) (T 2) l f P l2 g Q) (three_leg ends class i (T 0) (T 1) (T 2) l f P l2 g Q)
+      three : IsStar ends class i 3 (f j) (three_long ends class i (T 0) (T 1) (T 2) l f P l2 g Q) (three_stop ends class i (T 0) (T 1) (T 2) l f P l2 g Q)
+          (three_leg ends class i (T 0) (T 1) (T 2) l f P l2 g Q)
       three = tripod ends class i (T 0) (T 1) (T 2) l f P l2 g Q
 
       lt0 : 0 < 3
@@ -271,7 +273,8 @@ module _ (web : Graph) (ends_in : EndsIn web.nodes web.ends) (class : ℕ → �
     ]
 
     apart_of : (a b c d : ℕ) → a ≢ b → a ≢ c → a ≢ d → b ≢ c → b ≢ d → c ≢ d →
-        (five_other i a ≢ five_other i b) × (five_other i a ≢ five_other i c) × (five_other i a ≢ five_other i d) × (five_other i b ≢ five_other i c) × (five_other i b ≢ five_other i d) × (five_other i c ≢ five_other i d)
+        (five_other i a ≢ five_other i b) × (five_other i a ≢ five_other i c) × (five_other i a ≢ five_other i d) × (five_other i b ≢ five_other i c) ×
+        (five_other i b ≢ five_other i d) × (five_other i c ≢ five_other i d)
     apart_of a b c d ab ac ad bc bd cd = (other_apart a b ab, other_apart a c ac, other_apart a d ad, other_apart b c bc, other_apart b d bd, other_apart c d cd)
 
     num : (a b : ℕ) → ltb a b ≡ true → a < b
@@ -284,7 +287,8 @@ module _ (web : Graph) (ends_in : EndsIn web.nodes web.ends) (class : ℕ → �
       -- nearer to the first end
       nearer : j' < j → Three
       nearer less =
-          split_has web ends_in class is i (five_other i 1) (five_other i 2) (five_other i 0) (five_other i 3) i_in (other_in 1 (num 1 4 refl)) (other_in 2 (num 2 4 refl)) (other_in 0 (num 0 4 refl)) (other_in 3 (num 3 4 refl))
+          split_has web ends_in class is i (five_other i 1) (five_other i 2) (five_other i 0) (five_other i 3) i_in (other_in 1 (num 1 4 refl)) (other_in 2 (num 2 4 refl))
+          (other_in 0 (num 0 4 refl)) (other_in 3 (num 3 4 refl))
           (other_not 1, other_not 2, other_not 0, other_not 3) (apart_of 1 2 0 3 (differ 1 2 refl) (differ 1 0 refl) (differ 1 3 refl) (differ 2 0 refl) (differ 2 3 refl) (differ 0 3 refl))
           j l 0 k f g (record {
             first = stretch_of ends class i (T 0) (T 1) l f P j l (omega arith);
@@ -321,7 +325,8 @@ module _ (web : Graph) (ends_in : EndsIn web.nodes web.ends) (class : ℕ → �
       -- farther
       farther : j < j' → Three
       farther less =
-          split_has web ends_in class is i (five_other i 0) (five_other i 2) (five_other i 1) (five_other i 3) i_in (other_in 0 (num 0 4 refl)) (other_in 2 (num 2 4 refl)) (other_in 1 (num 1 4 refl)) (other_in 3 (num 3 4 refl))
+          split_has web ends_in class is i (five_other i 0) (five_other i 2) (five_other i 1) (five_other i 3) i_in (other_in 0 (num 0 4 refl)) (other_in 2 (num 2 4 refl))
+          (other_in 1 (num 1 4 refl)) (other_in 3 (num 3 4 refl))
           (other_not 0, other_not 2, other_not 1, other_not 3) (apart_of 0 2 1 3 (differ 0 2 refl) (differ 0 1 refl) (differ 0 3 refl) (differ 2 1 refl) (differ 2 3 refl) (differ 1 3 refl))
           0 j 0 k f g (record {
             first = stretch_of ends class i (T 0) (T 1) l f P 0 j f_at.0;
@@ -358,7 +363,8 @@ module _ (web : Graph) (ends_in : EndsIn web.nodes web.ends) (class : ℕ → �
     -- on the second path
     second : (m : ℕ) → m < k → g m ≡ h k3 → Three
     second m m_low at =
-        split_has web ends_in class is i (five_other i 0) (five_other i 1) (five_other i 2) (five_other i 3) i_in (other_in 0 (num 0 4 refl)) (other_in 1 (num 1 4 refl)) (other_in 2 (num 2 4 refl)) (other_in 3 (num 3 4 refl))
+        split_has web ends_in class is i (five_other i 0) (five_other i 1) (five_other i 2) (five_other i 3) i_in (other_in 0 (num 0 4 refl)) (other_in 1 (num 1 4 refl))
+        (other_in 2 (num 2 4 refl)) (other_in 3 (num 3 4 refl))
         (other_not 0, other_not 1, other_not 2, other_not 3) (apart_of 0 1 2 3 (differ 0 1 refl) (differ 0 2 refl) (differ 0 3 refl) (differ 1 2 refl) (differ 1 3 refl) (differ 2 3 refl))
         0 l 0 l f f (record {
           first = stretch_of ends class i (T 0) (T 1) l f P 0 l (omega arith);
@@ -446,6 +452,7 @@ minors_give_evidence web ends_in no_loop (inl five) =
     × ((s : ℕ) → s < 4 → stop s ≡ gate web ends_in 5 five_pairs class is five_are_pairs.pairs_in five_are_pairs.pairs_once i (five_other i s))) (λ i i_in. class_decides web ends_in class is i i_in)) [
       | inl three ↦ let e = three_evidence web ends_in three.0 three.1 in (e.0, e.1, inr e.2)
       | inr stars ↦
-          let found = stars_subdivide web ends_in 5 five_pairs class is five_are_pairs.pairs_in five_are_pairs.pairs_once 4 five_slot five_other five_are_pairs (omega arith) five_paired five_back stars in
+          let found = stars_subdivide web ends_in 5 five_pairs class is five_are_pairs.pairs_in five_are_pairs.pairs_once 4 five_slot five_other five_are_pairs
+          (omega arith) five_paired five_back stars in
           (found.0, found.1, inl (found.2, found.3))
     ]

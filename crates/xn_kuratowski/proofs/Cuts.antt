@@ -11,6 +11,7 @@ use Rattle.xn_genus.proofs.Compress.{EndsIn_from}
 use Rattle.xn_genus.proofs.Kept.{EndsIn_at}
 use Rattle.xn_genus.proofs.Lone.{dart_if_not_lone}
 use Rattle.xn_genus.proofs.Nodes.{lone_from}
+use Rattle.xn_surgery.proofs.OverlayComponents.{EndsIn-both}
 use Rattle.xn_fewer.proofs.Flats.{some_flat}
 use Rattle.xn_fewer.proofs.Lists.{at_back, at_front, lone_ends}
 use Rattle.xn_fewer.proofs.Walks.{filter_from, filter_to, joined_ends, walk_leaves}
@@ -19,7 +20,7 @@ use Rattle.xn_kuratowski.specs.Reduction.{CutWebsGo, HasNoParallels, HoldsBelow,
 use Rattle.xn_kuratowski.proofs.Aways.{EndsIn-away, avoided_alone, cases_joined, joined_away, out_two, two_out, with_from, with_node, with_not, with_to}
 use Rattle.xn_kuratowski.proofs.Choices.{AreAmong, AreDifferent, choice_among, different_append, different_filter, different_from, part_no_longer, same_is, same_trans, split_place}
 use Rattle.xn_kuratowski.proofs.Minors.{minor_among}
-use Rattle.xn_kuratowski.proofs.Stars.{EndsIn-append, no_loop-append}
+use Rattle.xn_kuratowski.proofs.Stars.{no_loop-append}
 use Rattle.xn_kuratowski.proofs.Unions.{union_at_node, union_at_segment}
 use Rattle.xn_kuratowski.proofs.Virtual.{minors_with_virtual}
 
@@ -120,7 +121,7 @@ module _ (nodes : ℕ) (ends : List (ℕ × ℕ)) (ends_in : EndsIn nodes ends) 
 
   with_last : (u v : ℕ) (list : List (ℕ × ℕ)) → EndsIn nodes list → HasNoLoop list → u < nodes → v < nodes → u ≢ v → EndsIn nodes (list ++ (u, v) ∷ []) × HasNoLoop (list ++ (u, v) ∷ [])
   with_last u v list list_in list_none u_in v_in other = (
-    EndsIn-append nodes list ((u, v) ∷ []) list_in (u_in, v_in, tt),
+    EndsIn-both nodes list ((u, v) ∷ []) list_in (u_in, v_in, tt),
     no_loop-append list ((u, v) ∷ []) list_none (λ s s_in same. let zero_place : s ≡ 0 = omega (arith, s_in) in
         let e = ap (ends_at ((u, v) ∷ [])) zero_place in other (ap (λ p. p.0) (sym e) ∙ same ∙ ap (λ p. p.1) e)),
   )

@@ -151,8 +151,10 @@ module _ (nodes : ℕ) (rest : List (ℕ × ℕ)) (x y : ℕ) (xs ys : List ℕ)
         let a_is = i.3 in
         let P = b.0 - last.0 in
         let sum : place i.0 + P ≡ b.0 = omega (arith, a_is, last.1) in
-        single_answer l n (λ j. rim (place i.0 + j)) (λ t. spokes (i.0 + t)) (λ t. place (i.0 + t) - place i.0) (shifted nodes rest x y xs ys is next flat_map two_x two_y l n rim spokes place R base i.0 i.1)
-        (shifted_base nodes rest x y xs ys is next flat_map two_x two_y l n rim spokes place R base i.0 i.1) (shifted_start nodes rest x y xs ys is next flat_map two_x two_y l n rim spokes place R base i.0 i.1 i.2) P (omega (arith, last.1)) (omega (arith, b.1))
+        single_answer l n (λ j. rim (place i.0 + j)) (λ t. spokes (i.0 + t)) (λ t. place (i.0 + t) - place i.0)
+        (shifted nodes rest x y xs ys is next flat_map two_x two_y l n rim spokes place R base i.0 i.1)
+        (shifted_base nodes rest x y xs ys is next flat_map two_x two_y l n rim spokes place R base i.0 i.1)
+        (shifted_start nodes rest x y xs ys is next flat_map two_x two_y l n rim spokes place R base i.0 i.1 i.2) P (omega (arith, last.1)) (omega (arith, b.1))
         (k, k_in, sym (ap rim sum ∙ b.2))
         (λ j some low. elim (cases_eq j P) [
           | inl here ↦ ap (λ t. is_x (rim t)) (let e : place i.0 + j ≡ b.0 = omega (arith, here, sum) in e) ∙ at_b
@@ -174,7 +176,8 @@ module _ (nodes : ℕ) (rest : List (ℕ × ℕ)) (x y : ℕ) (xs ys : List ℕ)
           let one_some = not_0 1 one.0 two_y (λ e. omega (arith, e)) one.2 in
           let two_some = not_0 2 two.0 more (λ e. omega (arith, e)) two.2 in
           let differ : one.0 ≢ two.0 = λ same. apart 1 2 two_y more (λ e. omega (arith, e)) (sym one.2 ∙ ap rim same ∙ two.2) in
-          let minor : (a b : ℕ) → 0 < a → a < b → b < l → (p q : ℕ) → p < length ys → q < length ys → rim a ≡ at ys p → rim b ≡ at ys q → HasMinor (web_of_stars rest x y xs ys) = λ a b a_some a_b b_in p q p_in q_in at_p at_q.
+          let minor : (a b : ℕ) → 0 < a → a < b → b < l → (p q : ℕ) → p < length ys → q < length ys → rim a ≡ at ys p → rim b ≡ at ys q →
+          HasMinor (web_of_stars rest x y xs ys) = λ a b a_some a_b b_in p q p_in q_in at_p at_q.
           three_common nodes rest x y xs ys is l rim R.some R.once R.follow (rim_l nodes rest x y xs ys is next flat_map two_x two_y l n rim spokes place R base) a b a_some a_b b_in
           (x_at 0 0 (omega (arith, two_y)) begins) (0, omega (arith, two_y), sym begins) (x_at p a p_in at_p) (p, p_in, sym at_p) (x_at q b q_in at_q) (q, q_in, sym at_q) in
           inl (elim (cases_lt one.0 two.0) [
@@ -213,8 +216,11 @@ module _ (nodes : ℕ) (rest : List (ℕ × ℕ)) (x y : ℕ) (xs ys : List ℕ)
                       let Q = l - P in
                       let whole : place i.0 + Q ≡ l = omega (arith, a_is, found.1) in
                       let meets : rim (place i.0 + Q) ≡ rim 0 = ap rim whole ∙ rim_l nodes rest x y xs ys is next flat_map two_x two_y l n rim spokes place R base in
-                      inr (gap_arcs nodes rest x y xs ys is next flat_map two_x two_y l n (λ j. rim (place i.0 + j)) (λ t. spokes (i.0 + t)) (λ t. place (i.0 + t) - place i.0) (shifted nodes rest x y xs ys is next flat_map two_x two_y l n rim spokes place R base i.0 i.1)
-                      (shifted_base nodes rest x y xs ys is next flat_map two_x two_y l n rim spokes place R base i.0 i.1) (shifted_start nodes rest x y xs ys is next flat_map two_x two_y l n rim spokes place R base i.0 i.1 i.2) Q (omega (arith, found.1)) (omega (arith, P_some))
+                      inr (gap_arcs nodes rest x y xs ys is next flat_map two_x two_y l n (λ j. rim (place i.0 + j)) (λ t. spokes (i.0 + t))
+                      (λ t. place (i.0 + t) - place i.0) (shifted nodes rest x y xs ys is next flat_map two_x two_y l n rim spokes place R base i.0 i.1)
+                      (shifted_base nodes rest x y xs ys is next flat_map two_x two_y l n rim spokes place R base i.0 i.1)
+                      (shifted_start nodes rest x y xs ys is next flat_map two_x two_y l n rim spokes place R base i.0 i.1 i.2) Q (omega (arith, found.1))
+                      (omega (arith, P_some))
                       (x_first.0, x_first.1, x_first.2 ∙ sym meets)
                       (λ j some low heads. both_ways _ none (some_below-from l outer (place i.0 + j) (omega (arith, whole, low))
                       (and_from _ _ (lt-ltb P (place i.0 + j) (omega (arith, a_is, some))) (heads_from xs (rim (place i.0 + j)) heads))))
@@ -237,8 +243,10 @@ module _ (nodes : ℕ) (rest : List (ℕ × ℕ)) (x y : ℕ) (xs ys : List ℕ)
                       let three : place i.0 + (l - c.0) ≡ l = omega (arith, a_is, c.1, found.1) in
                       let none : place i.0 + 0 ≡ c.0 = omega (arith, a_is) in
                       let x_c' = heads_to xs (rim c'.0) c'_is.1 in
-                      inl (four_minor nodes rest x y xs ys is next flat_map two_x two_y l n (λ j. rim (place i.0 + j)) (λ t. spokes (i.0 + t)) (λ t. place (i.0 + t) - place i.0) (shifted nodes rest x y xs ys is next flat_map two_x two_y l n rim spokes place R base i.0 i.1)
-                      (shifted_base nodes rest x y xs ys is next flat_map two_x two_y l n rim spokes place R base i.0 i.1) (P - c.0) (c'.0 - c.0) (l - c.0) (omega (arith, c.1)) (omega (arith, c.1, c'_high)) (omega (arith, c.1, c'_high, c'.1))
+                      inl (four_minor nodes rest x y xs ys is next flat_map two_x two_y l n (λ j. rim (place i.0 + j)) (λ t. spokes (i.0 + t))
+                      (λ t. place (i.0 + t) - place i.0) (shifted nodes rest x y xs ys is next flat_map two_x two_y l n rim spokes place R base i.0 i.1)
+                      (shifted_base nodes rest x y xs ys is next flat_map two_x two_y l n rim spokes place R base i.0 i.1) (P - c.0) (c'.0 - c.0) (l - c.0)
+                      (omega (arith, c.1)) (omega (arith, c.1, c'_high)) (omega (arith, c.1, c'_high, c'.1))
                       (omega (arith, c_some, c'.1))
                       (x_c.0, x_c.1, x_c.2 ∙ ap rim (sym none)) (1, two_y, sym found.2 ∙ ap rim (sym one)) (x_c'.0, x_c'.1, x_c'.2 ∙ ap rim (sym two))
                       (0, omega (arith, two_y), sym begins ∙ sym (rim_l nodes rest x y xs ys is next flat_map two_x two_y l n rim spokes place R base) ∙ ap rim (sym three)))
@@ -254,8 +262,10 @@ module _ (nodes : ℕ) (rest : List (ℕ × ℕ)) (x y : ℕ) (xs ys : List ℕ)
         let d = x_dart nodes rest x y xs ys is 0 (omega (arith, two_x)) in
         let i = R.all d.0 d.1 d.2 in
         let label : is_y (spokes i.0) ≡ false = ap is_y i.2 ∙ d.3 in
-        alone_answer l n (λ j. rim (place i.0 + j)) (λ t. spokes (i.0 + t)) (λ t. place (i.0 + t) - place i.0) (shifted nodes rest x y xs ys is next flat_map two_x two_y l n rim spokes place R base i.0 i.1)
-        (shifted_base nodes rest x y xs ys is next flat_map two_x two_y l n rim spokes place R base i.0 i.1) (shifted_start nodes rest x y xs ys is next flat_map two_x two_y l n rim spokes place R base i.0 i.1 label) k.0 k.1 (not-true _ k.2)
+        alone_answer l n (λ j. rim (place i.0 + j)) (λ t. spokes (i.0 + t)) (λ t. place (i.0 + t) - place i.0)
+        (shifted nodes rest x y xs ys is next flat_map two_x two_y l n rim spokes place R base i.0 i.1)
+        (shifted_base nodes rest x y xs ys is next flat_map two_x two_y l n rim spokes place R base i.0 i.1)
+        (shifted_start nodes rest x y xs ys is next flat_map two_x two_y l n rim spokes place R base i.0 i.1 label) k.0 k.1 (not-true _ k.2)
     | inr none ↦
         let common : (k : ℕ) → k < length ys → IsHead xs (at ys k) = λ k k_in. heads_to xs (at ys k) (elim (cases_Bool (is_x (at ys k))) [
           | inl on ↦ on

@@ -292,7 +292,13 @@ module _ (nodes : ℕ) (rest : List (ℕ × ℕ)) (x y : ℕ) (xs ys : List ℕ)
       where
         shifted : (k : ℕ) → iterate next k (reverse_of d) ≡ z → z < R → ((i : ℕ) → i < k → R ≤ iterate next i (reverse_of d)) → R ≤ reverse_of d → FirstRest (next (reverse_of d)) z
         shifted zero meets z_low early high = absurd (omega (arith, meets, z_low, high))
-        shifted (suc k) meets z_low early high = (k, iterate-step next k (reverse_of d) ∙ meets, z_low, λ i low. let one = early (suc i) (omega (arith, low)) in let same = iterate-step next i (reverse_of d) in omega (arith, one, same))
+        shifted (suc k) meets z_low early high = (
+          k,
+          iterate-step next k (reverse_of d) ∙ meets,
+          z_low,
+          λ i low. let one = early (suc i)
+              (omega (arith, low)) in let same = iterate-step next i (reverse_of d) in omega (arith, one, same),
+        )
     along z first (suc i) low =
         let e = iterate phi (suc i) d in
         let e_low = inside i (omega (arith, low)) in

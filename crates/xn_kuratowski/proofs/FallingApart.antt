@@ -1,6 +1,7 @@
 -- K5 as a minor with a class that falls into two, each beside two of the other four: K3,3 is a minor.
 use Rattle.std.proofs.Common.{◌≡◌, ◌≢◌, ℕ, zero, suc, ◌+◌, ◌-◌, ◌<◌, ◌≤◌, ◌⊎◌, inl, inr, Bool, true, ◌&&◌, ◌||◌, cond, eqb, leb, List, [], ◌∷◌, refl, sym, ◌∙◌, ap, subst, arith}
 use Rattle.std.proofs.lemmas.Bool.{and_from, and_parts, cases_Bool, cases_eq, cases_lt, cond-true, cond-false, eq-eqb, eqb-true, false_from_ne_true, le-leb, leb-true, ne_eqb, or_cases, or_left, or_right}
+use Rattle.std.proofs.lemmas.List.Elements.{All-cons, All-nil}
 use Rattle.xn_model.specs.Evidence.{five_pairs, three_pairs}
 use Rattle.xn_model.specs.Graph.{EndsIn, Graph}
 use Rattle.xn_model.specs.Map.{Joined}
@@ -12,7 +13,6 @@ use Rattle.xn_kuratowski.proofs.Attached.{all_below, all_below-to, any_same, any
 use Rattle.xn_kuratowski.proofs.Legs.{Paired}
 use Rattle.xn_kuratowski.proofs.Minors.{is_within, joined_inside}
 use Rattle.xn_kuratowski.proofs.Rim.{Adjacent}
-use Rattle.xn_kuratowski.proofs.RimMinors.{all_cons, all_none}
 
 -- a stretch of nodes, each beside the next
 pub record IsStretch (ends : List (ℕ × ℕ)) (class : ℕ → ℕ) (i lo hi : ℕ) (f : ℕ → ℕ) : Type 0 where
@@ -115,7 +115,8 @@ any_paired i o i_in o_in other =
     ]
 
 -- class i falls into S, beside p and q, and T, beside r and s
-module _ (web : Graph) (ends_in : EndsIn web.nodes web.ends) (class : ℕ → ℕ) (is : IsMinor web.ends 5 five_pairs class) (i p q r s : ℕ) (i_in : i < 5) (p_in : p < 5) (q_in : q < 5) (r_in : r < 5) (s_in : s < 5)
+module _ (web : Graph) (ends_in : EndsIn web.nodes web.ends) (class : ℕ → ℕ) (is : IsMinor web.ends 5 five_pairs class) (i p q r s : ℕ) (i_in : i < 5) (p_in : p < 5)
+    (q_in : q < 5) (r_in : r < 5) (s_in : s < 5)
     (apart_i : (i ≢ p) × (i ≢ q) × (i ≢ r) × (i ≢ s)) (apart : (p ≢ q) × (p ≢ r) × (p ≢ s) × (q ≢ r) × (q ≢ s) × (r ≢ s))
     (lo hi lo' hi' : ℕ) (f f' : ℕ → ℕ) (S : IsUnion web.ends class i lo hi lo' hi' f f') (mo mi mo' mi' : ℕ) (g g' : ℕ → ℕ) (T : IsUnion web.ends class i mo mi mo' mi' g g')
     (disjoint : (w : ℕ) → on_union lo hi lo' hi' f f' w ≡ true → on_union mo mi mo' mi' g g' w ≡ true → ⊥) where
@@ -167,7 +168,8 @@ module _ (web : Graph) (ends_in : EndsIn web.nodes web.ends) (class : ℕ → �
   new_other w other = cond-false _ _ _ (ne_eqb _ _ other)
 
   -- what is in a new class
-  cases_new : (w : ℕ) → ((class w ≡ i) × (in_S w ≡ true) × (new w ≡ 0)) ⊎ (((class w ≡ i) × (in_T w ≡ true) × (new w ≡ 3)) ⊎ (((class w ≡ i) × (new w ≡ 9)) ⊎ ((class w ≢ i) × (new w ≡ label (class w)))))
+  cases_new : (w : ℕ) → ((class w ≡ i) × (in_S w ≡ true) × (new w ≡ 0)) ⊎ (((class w ≡ i) × (in_T w ≡ true) × (new w ≡ 3)) ⊎
+      (((class w ≡ i) × (new w ≡ 9)) ⊎ ((class w ≢ i) × (new w ≡ label (class w)))))
   cases_new w = elim (cases_eq (class w) i) [
     | inr other ↦ inr (inr (inr (other, new_other w other)))
     | inl here ↦ elim (cases_Bool (in_S w)) [
@@ -258,7 +260,8 @@ module _ (web : Graph) (ends_in : EndsIn web.nodes web.ends) (class : ℕ → �
       let at = (gt_is a b a_in b_in other).0 in
       new_other (gt a b) (λ e. not_i (sym at ∙ e)) ∙ ap label at ∙ named
 
-  module _ (S_p : in_S (gt i p) ≡ true) (S_q : in_S (gt i q) ≡ true) (T_r : in_T (gt i r) ≡ true) (T_s : in_T (gt i s) ≡ true) (u v : ℕ) (S_u : in_S u ≡ true) (T_v : in_T v ≡ true) (over : Adjacent ends u v) where
+  module _ (S_p : in_S (gt i p) ≡ true) (S_q : in_S (gt i q) ≡ true) (T_r : in_T (gt i r) ≡ true) (T_s : in_T (gt i s) ≡ true) (u v : ℕ) (S_u : in_S u ≡ true)
+      (T_v : in_T v ≡ true) (over : Adjacent ends u v) where
     pub split_minor : IsMinor ends 6 three_pairs new
     split_minor =
         let A : ℕ × ℕ → Type 0 = λ e. Adjoin ends new e.0 e.1 in
@@ -266,28 +269,28 @@ module _ (web : Graph) (ends_in : EndsIn web.nodes web.ends) (class : ℕ → �
         record {
           joined = λ c u v c_in at_u at_v. all_joined c u v c_in at_u at_v;
           adjoin =
-              all_cons A (0, 3) ((0, 4) ∷ (0, 5) ∷ (1, 3) ∷ (1, 4) ∷ (1, 5) ∷ (2, 3) ∷ (2, 4) ∷ (2, 5) ∷ []) (adjoins 0 3 u v over (new_S u S_u) (new_T v T_v))
-              (all_cons A (0, 4) ((0, 5) ∷ (1, 3) ∷ (1, 4) ∷ (1, 5) ∷ (2, 3) ∷ (2, 4) ∷ (2, 5) ∷ [])
+              All-cons A (0, 3) ((0, 4) ∷ (0, 5) ∷ (1, 3) ∷ (1, 4) ∷ (1, 5) ∷ (2, 3) ∷ (2, 4) ∷ (2, 5) ∷ []) (adjoins 0 3 u v over (new_S u S_u) (new_T v T_v))
+              (All-cons A (0, 4) ((0, 5) ∷ (1, 3) ∷ (1, 4) ∷ (1, 5) ∷ (2, 3) ∷ (2, 4) ∷ (2, 5) ∷ [])
               (adjoins 0 4 (gt i p) (gt p i) (gt_is i p i_in p_in apart_i.0).1 (new_S _ S_p) (named_gate p i 4 p_in i_in (swapped i p apart_i.0) (swapped i p apart_i.0) label_p))
-              (all_cons A (0, 5) ((1, 3) ∷ (1, 4) ∷ (1, 5) ∷ (2, 3) ∷ (2, 4) ∷ (2, 5) ∷ [])
+              (All-cons A (0, 5) ((1, 3) ∷ (1, 4) ∷ (1, 5) ∷ (2, 3) ∷ (2, 4) ∷ (2, 5) ∷ [])
               (adjoins 0 5 (gt i q) (gt q i) (gt_is i q i_in q_in apart_i.1).1 (new_S _ S_q) (named_gate q i 5 q_in i_in (swapped i q apart_i.1) (swapped i q apart_i.1) label_q))
-              (all_cons A (1, 3) ((1, 4) ∷ (1, 5) ∷ (2, 3) ∷ (2, 4) ∷ (2, 5) ∷ [])
+              (All-cons A (1, 3) ((1, 4) ∷ (1, 5) ∷ (2, 3) ∷ (2, 4) ∷ (2, 5) ∷ [])
               (adjoins 1 3 (gt r i) (gt i r) (gt_is r i r_in i_in (swapped i r apart_i.2)).1 (named_gate r i 1 r_in i_in (swapped i r apart_i.2) (swapped i r apart_i.2) label_r) (new_T _ T_r))
-              (all_cons A (1, 4) ((1, 5) ∷ (2, 3) ∷ (2, 4) ∷ (2, 5) ∷ [])
+              (All-cons A (1, 4) ((1, 5) ∷ (2, 3) ∷ (2, 4) ∷ (2, 5) ∷ [])
               (adjoins 1 4 (gt r p) (gt p r) (gt_is r p r_in p_in (swapped p r apart.1)).1 (named_gate r p 1 r_in p_in (swapped p r apart.1) (swapped i r apart_i.2) label_r)
               (named_gate p r 4 p_in r_in apart.1 (swapped i p apart_i.0) label_p))
-              (all_cons A (1, 5) ((2, 3) ∷ (2, 4) ∷ (2, 5) ∷ [])
+              (All-cons A (1, 5) ((2, 3) ∷ (2, 4) ∷ (2, 5) ∷ [])
               (adjoins 1 5 (gt r q) (gt q r) (gt_is r q r_in q_in (swapped q r apart.3)).1 (named_gate r q 1 r_in q_in (swapped q r apart.3) (swapped i r apart_i.2) label_r)
               (named_gate q r 5 q_in r_in apart.3 (swapped i q apart_i.1) label_q))
-              (all_cons A (2, 3) ((2, 4) ∷ (2, 5) ∷ [])
+              (All-cons A (2, 3) ((2, 4) ∷ (2, 5) ∷ [])
               (adjoins 2 3 (gt s i) (gt i s) (gt_is s i s_in i_in (swapped i s apart_i.3)).1 (named_gate s i 2 s_in i_in (swapped i s apart_i.3) (swapped i s apart_i.3) label_s) (new_T _ T_s))
-              (all_cons A (2, 4) ((2, 5) ∷ [])
+              (All-cons A (2, 4) ((2, 5) ∷ [])
               (adjoins 2 4 (gt s p) (gt p s) (gt_is s p s_in p_in (swapped p s apart.2)).1 (named_gate s p 2 s_in p_in (swapped p s apart.2) (swapped i s apart_i.3) label_s)
               (named_gate p s 4 p_in s_in apart.2 (swapped i p apart_i.0) label_p))
-              (all_cons A (2, 5) []
+              (All-cons A (2, 5) []
               (adjoins 2 5 (gt s q) (gt q s) (gt_is s q s_in q_in (swapped q s apart.4)).1 (named_gate s q 2 s_in q_in (swapped q s apart.4) (swapped i s apart_i.3) label_s)
               (named_gate q s 5 q_in s_in apart.4 (swapped i q apart_i.1) label_q))
-              (all_none A)))))))));
+              (All-nil A)))))))));
         }
 
     pub split_has : (c : ℕ → ℕ) × IsMinor ends 6 three_pairs c

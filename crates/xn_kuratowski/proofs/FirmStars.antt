@@ -135,7 +135,8 @@ module _ (nodes s : ℕ) (ends : List (ℕ × ℕ)) (ends_in : EndsIn nodes ends
   two_ends : x ≢ y
   two_ends = no_loop s s_in
 
-  rest_clear : (i : ℕ) → i < length rest → (t : ℕ) × (t < length ends) × (ends_at rest i ≡ ends_at ends t) × (((ends_at ends t).0 ≢ x) × ((ends_at ends t).0 ≢ y)) × (((ends_at ends t).1 ≢ x) × ((ends_at ends t).1 ≢ y))
+  rest_clear : (i : ℕ) → i < length rest → (t : ℕ) × (t < length ends) × (ends_at rest i ≡ ends_at ends t) × (((ends_at ends t).0 ≢ x) × ((ends_at ends t).0 ≢ y)) ×
+      (((ends_at ends t).1 ≢ x) × ((ends_at ends t).1 ≢ y))
   rest_clear i i_in =
       let found = filter_to (is_clear (x ∷ y ∷ [])) ends i i_in in
       let clear = clear_to (x ∷ y ∷ []) (ends_at ends found.0) found.3 in

@@ -30,7 +30,8 @@ pub record ArePairs (count m : ℕ) (pairs : List (ℕ × ℕ)) (slot : ℕ → 
 
 module _ (web : Graph) (count m : ℕ) (pairs : List (ℕ × ℕ)) (slot : ℕ → ℕ → ℕ) (class : ℕ → ℕ) (are : ArePairs count m pairs slot) (centre : ℕ → ℕ) (long stop : ℕ → ℕ → ℕ) (leg : ℕ → ℕ → ℕ → ℕ)
     (stars : (i : ℕ) → i < count → IsStar web.ends class i m (centre i) (long i) (stop i) (leg i)) (centre_in : (i : ℕ) → i < count → centre i < web.nodes)
-    (joins : (q : ℕ) → q < length pairs → Adjacent web.ends (stop (ends_at pairs q).0 (slot (ends_at pairs q).0 (ends_at pairs q).1)) (stop (ends_at pairs q).1 (slot (ends_at pairs q).1 (ends_at pairs q).0))) where
+    (joins : (q : ℕ) → q < length pairs → Adjacent web.ends (stop (ends_at pairs q).0 (slot (ends_at pairs q).0 (ends_at pairs q).1))
+    (stop (ends_at pairs q).1 (slot (ends_at pairs q).1 (ends_at pairs q).0))) where
   abbrev A : ℕ → ℕ
   A q = (ends_at pairs q).0
 

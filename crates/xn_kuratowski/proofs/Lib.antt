@@ -1,31 +1,31 @@
-pub mod Apart
-pub mod Arcs
-pub mod Attached
-pub mod Aways
-pub mod Choices
-pub mod Contract
-pub mod Cores
-pub mod Crosses
-pub mod Cuts
-pub mod Decide
-pub mod FacesAtNode
-pub mod FallingApart
-pub mod Firm
-pub mod FirmStars
-pub mod Gaps
-pub mod Legs
-pub mod MinorSteps
-pub mod Minors
-pub mod Reduced
-pub mod Rim
-pub mod RimMinors
-pub mod Round
-pub mod Separation
-pub mod Smallest
-pub mod Splits
-pub mod Stars
-pub mod Strands
-pub mod Theorem
-pub mod Tripods
-pub mod Unions
-pub mod Virtual
+mod Apart
+mod Arcs
+mod Attached
+mod Aways
+mod Choices
+mod Contract
+mod Cores
+mod Crosses
+mod Cuts
+mod Decide
+mod FacesAtNode
+mod FallingApart
+mod Firm
+mod FirmStars
+mod Gaps
+mod Legs
+mod MinorSteps
+mod Minors
+mod Reduced
+mod Rim
+mod RimMinors
+mod Round
+mod Separation
+mod Smallest
+mod Splits
+mod Stars
+mod Strands
+mod Theorem
+mod Tripods
+mod Unions
+mod Virtual

@@ -1,7 +1,7 @@
 -- A rim on which neighbours of the two nodes alternate, or three are neighbours of both, gives a minor.
 use Rattle.std.proofs.Common.{◌≡◌, ◌≢◌, ℕ, zero, suc, ◌+◌, ◌-◌, ◌<◌, ◌≤◌, ◌⊎◌, inl, inr, Bool, cond, eqb, ltb, List, [], ◌∷◌, length, refl, sym, ◌∙◌, ap, subst, arith}
-use Rattle.std.specs.Prelude.{All}
 use Rattle.std.proofs.lemmas.Bool.{cases_Bool, cases_eq, cases_lt, cond-true, cond-false, eq-eqb, eqb-true, ne_eqb, lt-ltb, le-ltb}
+use Rattle.std.proofs.lemmas.List.Elements.{All-cons, All-nil}
 use Rattle.xn_model.specs.Lists.{at}
 use Rattle.xn_model.specs.Map.{Joined}
 use Rattle.xn_model.proofs.ComponentWalks.{joined_sym, joined_trans}
@@ -13,13 +13,6 @@ use Rattle.xn_kuratowski.proofs.Minors.{joined_inside}
 use Rattle.xn_kuratowski.proofs.Rim.{Adjacent, AreStars, web_of_stars}
 use Rattle.xn_kuratowski.proofs.Smallest.{smallest, smallest_is}
 use Rattle.xn_kuratowski.proofs.Stars.{at_first, at_more, at_rest, at_second, size_of_stars}
-
-pub all_none : {X : Type 0} (P : X → Type 0) → All P []
-all_none P k d k_in = absurd (omega (arith, k_in))
-
-pub all_cons : {X : Type 0} (P : X → Type 0) (x : X) (xs : List X) → P x → All P xs → All P (x ∷ xs)
-all_cons P x xs one rest zero d k_in = one
-all_cons P x xs one rest (suc k) d k_in = rest k d (omega (arith, k_in))
 
 -- v is one of the heads
 abbrev pub IsHead : List ℕ → ℕ → Type 0
@@ -239,24 +232,26 @@ module _ (nodes : ℕ) (rest : List (ℕ × ℕ)) (x y : ℕ) (xs ys : List ℕ)
           record {
             joined = λ i u v i_in at_u at_v. class_joined 0 3 9 four differ four_not four_convex i u v (λ same. omega (arith, same, i_in)) at_u at_v;
             adjoin =
-                all_cons A (0, 3) ((0, 4) ∷ (0, 5) ∷ (1, 3) ∷ (1, 4) ∷ (1, 5) ∷ (2, 3) ∷ (2, 4) ∷ (2, 5) ∷ []) (x_to_y 0 3 9 four differ four_not)
-                (all_cons A (0, 4) ((0, 5) ∷ (1, 3) ∷ (1, 4) ∷ (1, 5) ∷ (2, 3) ∷ (2, 4) ∷ (2, 5) ∷ []) (x_to 0 3 9 four differ four_not 4 0 some at_0 x_0)
-                (all_cons A (0, 5) ((1, 3) ∷ (1, 4) ∷ (1, 5) ∷ (2, 3) ∷ (2, 4) ∷ (2, 5) ∷ []) (x_to 0 3 9 four differ four_not 5 b (omega (arith, b_c, c_in)) at_b x_b)
-                (all_cons A (1, 3) ((1, 4) ∷ (1, 5) ∷ (2, 3) ∷ (2, 4) ∷ (2, 5) ∷ []) (adjoin_turned 0 3 9 four differ four_not 3 1 (y_to 0 3 9 four differ four_not 1 a (omega (arith, a_b, b_c, c_in)) at_a y_a))
-                (all_cons A (1, 4) ((1, 5) ∷ (2, 3) ∷ (2, 4) ∷ (2, 5) ∷ []) (adjoin_turned 0 3 9 four differ four_not 4 1
+                All-cons A (0, 3) ((0, 4) ∷ (0, 5) ∷ (1, 3) ∷ (1, 4) ∷ (1, 5) ∷ (2, 3) ∷ (2, 4) ∷ (2, 5) ∷ []) (x_to_y 0 3 9 four differ four_not)
+                (All-cons A (0, 4) ((0, 5) ∷ (1, 3) ∷ (1, 4) ∷ (1, 5) ∷ (2, 3) ∷ (2, 4) ∷ (2, 5) ∷ []) (x_to 0 3 9 four differ four_not 4 0 some at_0 x_0)
+                (All-cons A (0, 5) ((1, 3) ∷ (1, 4) ∷ (1, 5) ∷ (2, 3) ∷ (2, 4) ∷ (2, 5) ∷ []) (x_to 0 3 9 four differ four_not 5 b (omega (arith, b_c, c_in)) at_b x_b)
+                (All-cons A (1, 3) ((1, 4) ∷ (1, 5) ∷ (2, 3) ∷ (2, 4) ∷ (2, 5) ∷ [])
+                (adjoin_turned 0 3 9 four differ four_not 3 1 (y_to 0 3 9 four differ four_not 1 a (omega (arith, a_b, b_c, c_in)) at_a y_a))
+                (All-cons A (1, 4) ((1, 5) ∷ (2, 3) ∷ (2, 4) ∷ (2, 5) ∷ []) (adjoin_turned 0 3 9 four differ four_not 4 1
                 (next_cell 0 3 9 four differ four_not 4 1 (a - 1) (omega (arith, a_is, a_b, b_c, c_in)) before_a (ap four a_is ∙ at_a)))
-                (all_cons A (1, 5) ((2, 3) ∷ (2, 4) ∷ (2, 5) ∷ []) (next_cell 0 3 9 four differ four_not 1 5 (b - 1) (omega (arith, b_is, b_c, c_in)) before_b (ap four b_is ∙ at_b))
-                (all_cons A (2, 3) ((2, 4) ∷ (2, 5) ∷ []) (adjoin_turned 0 3 9 four differ four_not 3 2 (y_to 0 3 9 four differ four_not 2 c c_in at_c y_c))
-                (all_cons A (2, 4) ((2, 5) ∷ []) (round_cell 0 3 9 four differ four_not 2 4 (l - 1) (omega (arith, c_in)) before_l at_0)
-                (all_cons A (2, 5) ([]) (adjoin_turned 0 3 9 four differ four_not 5 2
+                (All-cons A (1, 5) ((2, 3) ∷ (2, 4) ∷ (2, 5) ∷ []) (next_cell 0 3 9 four differ four_not 1 5 (b - 1) (omega (arith, b_is, b_c, c_in)) before_b (ap four b_is ∙ at_b))
+                (All-cons A (2, 3) ((2, 4) ∷ (2, 5) ∷ []) (adjoin_turned 0 3 9 four differ four_not 3 2 (y_to 0 3 9 four differ four_not 2 c c_in at_c y_c))
+                (All-cons A (2, 4) ((2, 5) ∷ []) (round_cell 0 3 9 four differ four_not 2 4 (l - 1) (omega (arith, c_in)) before_l at_0)
+                (All-cons A (2, 5) ([]) (adjoin_turned 0 3 9 four differ four_not 5 2
                 (next_cell 0 3 9 four differ four_not 5 2 (c - 1) (omega (arith, c_is, c_in)) before_c (ap four c_is ∙ at_c)))
-                (all_none A)))))))));
+                (All-nil A)))))))));
           },
         )
 
   -- ---- three neighbours of both
 
-  module _ (a b : ℕ) (a_some : 0 < a) (a_b : a < b) (b_in : b < l) (x_0 : IsHead xs (rim 0)) (y_0 : IsHead ys (rim 0)) (x_a : IsHead xs (rim a)) (y_a : IsHead ys (rim a)) (x_b : IsHead xs (rim b)) (y_b : IsHead ys (rim b)) where
+  module _ (a b : ℕ) (a_some : 0 < a) (a_b : a < b) (b_in : b < l) (x_0 : IsHead xs (rim 0)) (y_0 : IsHead ys (rim 0)) (x_a : IsHead xs (rim a)) (y_a : IsHead ys (rim a))
+      (x_b : IsHead xs (rim b)) (y_b : IsHead ys (rim b)) where
     abbrev three : ℕ → ℕ
     three j = cond (ltb j a) 2 (cond (ltb j b) 3 4)
 
@@ -298,16 +293,16 @@ module _ (nodes : ℕ) (rest : List (ℕ × ℕ)) (x y : ℕ) (xs ys : List ℕ)
           record {
             joined = λ i u v i_in at_u at_v. class_joined 0 1 9 three unlike three_not three_convex i u v (λ same. omega (arith, same, i_in)) at_u at_v;
             adjoin =
-                all_cons A (0, 1) ((0, 2) ∷ (0, 3) ∷ (0, 4) ∷ (1, 2) ∷ (1, 3) ∷ (1, 4) ∷ (2, 3) ∷ (2, 4) ∷ (3, 4) ∷ []) (x_to_y 0 1 9 three unlike three_not)
-                (all_cons A (0, 2) ((0, 3) ∷ (0, 4) ∷ (1, 2) ∷ (1, 3) ∷ (1, 4) ∷ (2, 3) ∷ (2, 4) ∷ (3, 4) ∷ []) (x_to 0 1 9 three unlike three_not 2 0 some at_0 x_0)
-                (all_cons A (0, 3) ((0, 4) ∷ (1, 2) ∷ (1, 3) ∷ (1, 4) ∷ (2, 3) ∷ (2, 4) ∷ (3, 4) ∷ []) (x_to 0 1 9 three unlike three_not 3 a a_in at_a x_a)
-                (all_cons A (0, 4) ((1, 2) ∷ (1, 3) ∷ (1, 4) ∷ (2, 3) ∷ (2, 4) ∷ (3, 4) ∷ []) (x_to 0 1 9 three unlike three_not 4 b b_in at_b x_b)
-                (all_cons A (1, 2) ((1, 3) ∷ (1, 4) ∷ (2, 3) ∷ (2, 4) ∷ (3, 4) ∷ []) (y_to 0 1 9 three unlike three_not 2 0 some at_0 y_0)
-                (all_cons A (1, 3) ((1, 4) ∷ (2, 3) ∷ (2, 4) ∷ (3, 4) ∷ []) (y_to 0 1 9 three unlike three_not 3 a a_in at_a y_a)
-                (all_cons A (1, 4) ((2, 3) ∷ (2, 4) ∷ (3, 4) ∷ []) (y_to 0 1 9 three unlike three_not 4 b b_in at_b y_b)
-                (all_cons A (2, 3) ((2, 4) ∷ (3, 4) ∷ []) (next_cell 0 1 9 three unlike three_not 2 3 (a - 1) (omega (arith, a_is, a_in)) before_a (ap three a_is ∙ at_a))
-                (all_cons A (2, 4) ((3, 4) ∷ []) (adjoin_turned 0 1 9 three unlike three_not 4 2 (round_cell 0 1 9 three unlike three_not 4 2 (l - 1) (omega (arith, b_in)) before_l at_0))
-                (all_cons A (3, 4) ([]) (next_cell 0 1 9 three unlike three_not 3 4 (b - 1) (omega (arith, b_is, b_in)) before_b (ap three b_is ∙ at_b))
-                (all_none A))))))))));
+                All-cons A (0, 1) ((0, 2) ∷ (0, 3) ∷ (0, 4) ∷ (1, 2) ∷ (1, 3) ∷ (1, 4) ∷ (2, 3) ∷ (2, 4) ∷ (3, 4) ∷ []) (x_to_y 0 1 9 three unlike three_not)
+                (All-cons A (0, 2) ((0, 3) ∷ (0, 4) ∷ (1, 2) ∷ (1, 3) ∷ (1, 4) ∷ (2, 3) ∷ (2, 4) ∷ (3, 4) ∷ []) (x_to 0 1 9 three unlike three_not 2 0 some at_0 x_0)
+                (All-cons A (0, 3) ((0, 4) ∷ (1, 2) ∷ (1, 3) ∷ (1, 4) ∷ (2, 3) ∷ (2, 4) ∷ (3, 4) ∷ []) (x_to 0 1 9 three unlike three_not 3 a a_in at_a x_a)
+                (All-cons A (0, 4) ((1, 2) ∷ (1, 3) ∷ (1, 4) ∷ (2, 3) ∷ (2, 4) ∷ (3, 4) ∷ []) (x_to 0 1 9 three unlike three_not 4 b b_in at_b x_b)
+                (All-cons A (1, 2) ((1, 3) ∷ (1, 4) ∷ (2, 3) ∷ (2, 4) ∷ (3, 4) ∷ []) (y_to 0 1 9 three unlike three_not 2 0 some at_0 y_0)
+                (All-cons A (1, 3) ((1, 4) ∷ (2, 3) ∷ (2, 4) ∷ (3, 4) ∷ []) (y_to 0 1 9 three unlike three_not 3 a a_in at_a y_a)
+                (All-cons A (1, 4) ((2, 3) ∷ (2, 4) ∷ (3, 4) ∷ []) (y_to 0 1 9 three unlike three_not 4 b b_in at_b y_b)
+                (All-cons A (2, 3) ((2, 4) ∷ (3, 4) ∷ []) (next_cell 0 1 9 three unlike three_not 2 3 (a - 1) (omega (arith, a_is, a_in)) before_a (ap three a_is ∙ at_a))
+                (All-cons A (2, 4) ((3, 4) ∷ []) (adjoin_turned 0 1 9 three unlike three_not 4 2 (round_cell 0 1 9 three unlike three_not 4 2 (l - 1) (omega (arith, b_in)) before_l at_0))
+                (All-cons A (3, 4) ([]) (next_cell 0 1 9 three unlike three_not 3 4 (b - 1) (omega (arith, b_is, b_in)) before_b (ap three b_is ∙ at_b))
+                (All-nil A))))))))));
           },
         )

@@ -184,7 +184,8 @@ module _ (nodes : ℕ) (rest : List (ℕ × ℕ)) (x y : ℕ) (xs ys : List ℕ)
           let ea = iterate phi (suc (i - place a.0)) da in
           let eb = iterate phi (suc (j - place b.0)) db in
           let meet : ea ≡ eb = sym one ∙ same ∙ two in
-          let faces : Reaches phi da db = reaches_trans phi da eb db (suc (i - place a.0), meet) (reaches_back n phi (phi_permutes nodes rest x y xs ys next is flat_map several) db eb b_at.0 (suc (j - place b.0), refl)) in
+          let faces : Reaches phi da db = reaches_trans phi da eb db (suc (i - place a.0), meet)
+          (reaches_back n phi (phi_permutes nodes rest x y xs ys next is flat_map several) db eb b_at.0 (suc (j - place b.0), refl)) in
           let spokes_same = (spokes_apart nodes rest x y xs ys next is flat_map several) da db a_at.0 b_at.0 a_at.1 b_at.1 faces in
           let owners : a.0 ≡ b.0 = spoke_once a.0 b.0 a.1 b.1 spokes_same in
           let starts : place a.0 ≡ place b.0 = ap place owners in
@@ -193,7 +194,8 @@ module _ (nodes : ℕ) (rest : List (ℕ × ℕ)) (x y : ℕ) (xs ys : List ℕ)
           elim (cases_order i j) [
             | inl equal ↦ equal
             | inr (inl less) ↦
-                absurd ((different nodes rest x y xs ys next is flat_map several) da a_at.0 a_at.1 (i - place a.0) (j - place a.0) (omega (arith, less, a.2)) (omega (arith, g, b.3, ends_a, starts, a.2, less))
+                absurd ((different nodes rest x y xs ys next is flat_map several) da a_at.0 a_at.1 (i - place a.0) (j - place a.0) (omega (arith, less, a.2))
+                (omega (arith, g, b.3, ends_a, starts, a.2, less))
                 (meet ∙ ap (λ t. iterate phi (suc (j - place b.0)) t) (sym spokes_same) ∙ ap (λ t. iterate phi (suc (j - t)) da) (sym starts)))
             | inr (inr more) ↦
                 absurd ((different nodes rest x y xs ys next is flat_map several) da a_at.0 a_at.1 (j - place a.0) (i - place a.0) (omega (arith, more, b.2, starts)) (omega (arith, g, a.3, a.2, more))
@@ -241,7 +243,8 @@ module _ (nodes : ℕ) (rest : List (ℕ × ℕ)) (x y : ℕ) (xs ys : List ℕ)
       place_head i =
           let one = spoke_in i in
           let far = (spoke_reverse nodes rest x y xs ys next is flat_map several) (spoke i) one.0 one.1 in
-          (low_tail nodes rest x y xs ys next is flat_map several) (dart (place i)) (dart_low (place i)) ∙ (first_tail nodes rest x y xs ys next is flat_map several) (reverse_of (spoke i)) (dart (place i)) far.1 (at_place i)
+          (low_tail nodes rest x y xs ys next is flat_map several) (dart (place i)) (dart_low (place i)) ∙ (first_tail nodes rest x y xs ys next is flat_map several)
+          (reverse_of (spoke i)) (dart (place i)) far.1 (at_place i)
 
       rim_is : 0 < l → IsRim rest ends next x l count rim spoke place
       rim_is some = record {
@@ -282,7 +285,8 @@ module _ (nodes : ℕ) (rest : List (ℕ × ℕ)) (x y : ℕ) (xs ys : List ℕ)
         let two = spoke_all (e 1) (omega (arith, (size nodes rest x y xs ys next is flat_map several), several)) (second_at_x nodes rest x y xs ys is 1 several) in
         let first_of : (i : ℕ) → i < count → tail_of ends (reverse_of (spoke i)) ≡ tail_of ends (reverse_of s) = λ i i_in. all_same i i_in in
         let same : at ys 0 ≡ at ys 1 =
-        sym (head 0 (omega (arith, several))) ∙ ap (λ t. tail_of ends (reverse_of t)) (sym one.2) ∙ first_of one.0 one.1 ∙ sym (first_of two.0 two.1) ∙ ap (λ t. tail_of ends (reverse_of t)) two.2 ∙ head 1 several in
+        sym (head 0 (omega (arith, several))) ∙ ap (λ t. tail_of ends (reverse_of t)) (sym one.2) ∙ first_of one.0 one.1 ∙ sym (first_of two.0 two.1) ∙ ap
+        (λ t. tail_of ends (reverse_of t)) two.2 ∙ head 1 several in
         let e' = is.y_heads.once 0 1 (omega (arith, several)) several same in
         omega (arith, e')
       where
@@ -315,7 +319,8 @@ module _ (nodes : ℕ) (rest : List (ℕ × ℕ)) (x y : ℕ) (xs ys : List ℕ)
         let z = phi d in
         let z_low : z < R = (inside nodes rest x y xs ys next is flat_map several) d one.0 one.1 0 (omega (arith, g, some)) in
         let far = (spoke_reverse nodes rest x y xs ys next is flat_map several) d one.0 one.1 in
-        let there = (next_first nodes rest x y xs ys next is flat_map several) d one.0 one.1 z (spoke (suc i)) two.0 (spoke_turn i) ((first_on nodes rest x y xs ys next is flat_map several) (reverse_of d) z far.0 ((first_own nodes rest x y xs ys next is flat_map several) z z_low)) in
+        let there = (next_first nodes rest x y xs ys next is flat_map several) d one.0 one.1 z (spoke (suc i)) two.0 (spoke_turn i)
+        ((first_on nodes rest x y xs ys next is flat_map several) (reverse_of d) z far.0 ((first_own nodes rest x y xs ys next is flat_map several) z z_low)) in
         let P : ℕ → Type 0 = λ t. (w : ℕ) × FirstRest (reverse_of (spoke (suc t))) w in
         let sum : i ≡ i + 0 = omega arith in
         subst P sum (iterate psi (long d - 1) z, there)

@@ -6,15 +6,12 @@ use Rattle.xn_model.specs.Lists.{at}
 use Rattle.xn_model.specs.Map.{is_lone, tail_of}
 use Rattle.xn_model.proofs.Darts.{cases_dart, tail-even, tail-odd}
 use Rattle.xn_genus.proofs.Nodes.{lone_from}
+use Rattle.xn_surgery.proofs.OverlayComponents.{EndsIn-both}
 use Rattle.xn_fewer.specs.Flat.{both, called, merged}
 use Rattle.xn_fewer.proofs.Lists.{at_back, at_front, both-append, called-at, called-other, lone_ends, merged-lone}
 use Rattle.xn_kuratowski.proofs.Rim.{AreStars, star, web_of_stars, web_merged}
 
 -- ---- lists of segments
-
-pub EndsIn-append : (nodes : ℕ) (xs ys : List (ℕ × ℕ)) → EndsIn nodes xs → EndsIn nodes ys → EndsIn nodes (xs ++ ys)
-EndsIn-append nodes [] ys xs_in ys_in = ys_in
-EndsIn-append nodes (p ∷ xs) ys xs_in ys_in = (xs_in.0, xs_in.1, EndsIn-append nodes xs ys xs_in.2 ys_in)
 
 pub no_loop-append : (xs ys : List (ℕ × ℕ)) → HasNoLoop xs → HasNoLoop ys → HasNoLoop (xs ++ ys)
 no_loop-append [] ys none_x none_y s s_in = none_y s s_in
@@ -57,7 +54,7 @@ module _ (nodes : ℕ) (rest : List (ℕ × ℕ)) (x y : ℕ) (xs ys : List ℕ)
   y_heads_others k k_in = let low = is.y_heads.below k 0 k_in in (low.0, low.2)
 
   pub ends_in_merged : EndsIn nodes (web_merged rest x xs ys)
-  ends_in_merged = EndsIn-append nodes rest _ is.ends_in (EndsIn-append nodes (star x xs) _ (EndsIn-star nodes x xs is.x_in x_others) (EndsIn-star nodes x ys is.x_in y_others))
+  ends_in_merged = EndsIn-both nodes rest _ is.ends_in (EndsIn-both nodes (star x xs) _ (EndsIn-star nodes x xs is.x_in x_others) (EndsIn-star nodes x ys is.x_in y_others))
 
   pub no_loop_merged : HasNoLoop (web_merged rest x xs ys)
   no_loop_merged = no_loop-append rest _ is.no_loop (no_loop-append (star x xs) _ (no_loop-star nodes x xs x_others) (no_loop-star nodes x ys y_others))
@@ -69,12 +66,13 @@ module _ (nodes : ℕ) (rest : List (ℕ × ℕ)) (x y : ℕ) (xs ys : List ℕ)
   pub size_of_stars : length (web_of_stars rest x y xs ys) ≡ length rest + (length xs + (length ys + 1))
   size_of_stars =
       length-append rest (star x xs ++ (star y ys ++ (x, y) ∷ []))
-      ∙ ap (λ k. length rest + k) (length-append (star x xs) (star y ys ++ (x, y) ∷ []) ∙ ap₂ (λ a b. a + b) (length-star x xs) (length-append (star y ys) ((x, y) ∷ []) ∙ ap (λ a. a + 1) (length-star y ys)))
+      ∙ ap (λ k. length rest + k) (length-append (star x xs) (star y ys ++ (x, y) ∷ []) ∙ ap₂ (λ a b. a + b) (length-star x xs)
+      (length-append (star y ys) ((x, y) ∷ []) ∙ ap (λ a. a + 1) (length-star y ys)))
 
   pub ends_in_beside : EndsIn nodes (web_of_stars rest x y xs ys)
   ends_in_beside =
-      EndsIn-append nodes rest _ is.ends_in
-      (EndsIn-append nodes (star x xs) _ (EndsIn-star nodes x xs is.x_in x_others) (EndsIn-append nodes (star y ys) _ (EndsIn-star nodes y ys is.y_in y_heads_others) (is.x_in, is.y_in, tt)))
+      EndsIn-both nodes rest _ is.ends_in
+      (EndsIn-both nodes (star x xs) _ (EndsIn-star nodes x xs is.x_in x_others) (EndsIn-both nodes (star y ys) _ (EndsIn-star nodes y ys is.y_in y_heads_others) (is.x_in, is.y_in, tt)))
 
   -- the web without the segment between x and y
   abbrev pub open_web : List (ℕ × ℕ)

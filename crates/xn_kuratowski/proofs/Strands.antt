@@ -262,7 +262,8 @@ module _ (web : Graph) (count : ℕ) (pairs : List (ℕ × ℕ)) (branch long : 
               ],
             )
         | inr other ↦
-            let ends_only : (a b : ℕ) → a ≤ long q → b ≤ long r → nodes q a ≡ nodes r b → ((a ≡ 0) ⊎ (a ≡ long q)) × ((b ≡ 0) ⊎ (b ≡ long r)) = λ a b a_low b_low met. elim (meets q r a b q_in r_in a_low b_low met) [
+            let ends_only : (a b : ℕ) → a ≤ long q → b ≤ long r → nodes q a ≡ nodes r b →
+            ((a ≡ 0) ⊎ (a ≡ long q)) × ((b ≡ 0) ⊎ (b ≡ long r)) = λ a b a_low b_low met. elim (meets q r a b q_in r_in a_low b_low met) [
               | inl equal ↦ absurd (other equal.0)
               | inr ends ↦ ends
             ] in

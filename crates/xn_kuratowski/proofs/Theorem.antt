@@ -86,7 +86,8 @@ step nodes ends ends_in no_loop holds = elim (cases_Bool (some_below nodes (is_l
   | inr none ↦ elim (cases_Bool (some_two (length ends) (are_parallel ends))) [
     | inl two ↦
         let found = some_two-to (length ends) (are_parallel ends) two in
-        let one : (not (eqb found.0 found.1) ≡ true) × ((touches (ends_at ends found.0) (ends_at ends found.1).0 && touches (ends_at ends found.0) (ends_at ends found.1).1) ≡ true) = and_parts _ _ found.4 in
+        let one : (not (eqb found.0 found.1) ≡ true) × ((touches (ends_at ends found.0) (ends_at ends found.1).0 && touches (ends_at ends found.0)
+        (ends_at ends found.1).1) ≡ true) = and_parts _ _ found.4 in
         let both_touch : (touches (ends_at ends found.0) (ends_at ends found.1).0 ≡ true) × (touches (ends_at ends found.0) (ends_at ends found.1).1 ≡ true) = and_parts _ _ one.1 in
         parallels_go nodes found.0 found.1 ends ends_in no_loop holds found.2 found.3 (eqb-false _ _ (not-true _ one.0)) both_touch.0 both_touch.1
     | inr single ↦

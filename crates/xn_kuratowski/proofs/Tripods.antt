@@ -37,8 +37,10 @@ path_of ends u v (d ∷ darts) walk =
       c.0,
       s_in,
       elim c.1 [
-        | inl even ↦ inl (ap₂ (λ a b. (a, b)) (sym (tail-even ends c.0) ∙ ap (tail_of ends) (sym even) ∙ walk.1) (sym (tail-odd ends c.0) ∙ ap (tail_of ends) (sym (ap reverse_of even ∙ reverse-even c.0))))
-        | inr odd ↦ inr (ap₂ (λ a b. (a, b)) (sym (tail-even ends c.0) ∙ ap (tail_of ends) (sym (ap reverse_of odd ∙ reverse-odd c.0))) (sym (tail-odd ends c.0) ∙ ap (tail_of ends) (sym odd) ∙ walk.1))
+        | inl even ↦ inl (ap₂ (λ a b. (a, b)) (sym (tail-even ends c.0) ∙ ap (tail_of ends) (sym even) ∙ walk.1)
+            (sym (tail-odd ends c.0) ∙ ap (tail_of ends) (sym (ap reverse_of even ∙ reverse-even c.0))))
+        | inr odd ↦ inr (ap₂ (λ a b. (a, b)) (sym (tail-even ends c.0) ∙ ap (tail_of ends) (sym (ap reverse_of odd ∙ reverse-odd c.0)))
+            (sym (tail-odd ends c.0) ∙ ap (tail_of ends) (sym odd) ∙ walk.1))
       ],
     ) in
     elim (cases_Bool (some_below (suc l) (λ k. eqb (f k) u))) [
@@ -213,9 +215,11 @@ module _ (ends : List (ℕ × ℕ)) (class : ℕ → ℕ) (i : ℕ) where
 
         once : (s t m n : ℕ) → s < 3 → t < 3 → m ≤ three_long s → n ≤ three_long t → three_leg s m ≡ three_leg t n → ((m ≡ 0) × (n ≡ 0)) ⊎ ((s ≡ t) × (m ≡ n))
         once zero zero m n s_in t_in m_low n_low same = let e = P.once (j - m) (j - n) (omega (arith, at_f.1)) (omega (arith, at_f.1)) same in inr (refl, omega (arith, e, m_low, n_low))
-        once zero (suc zero) m n s_in t_in m_low n_low same = let e = P.once (j - m) (j + n) (omega (arith, at_f.1)) (omega (arith, at_f.1, n_low)) same in inl (omega (arith, e, m_low), omega (arith, e, m_low))
+        once zero (suc zero) m n s_in t_in m_low n_low same = let e = P.once (j - m) (j + n) (omega (arith, at_f.1)) (omega (arith, at_f.1, n_low)) same in inl
+            (omega (arith, e, m_low), omega (arith, e, m_low))
         once zero (suc (suc t)) m n s_in t_in m_low n_low same = let e = third n (j - m) n_low (omega (arith, at_f.1)) (sym same) in inl (omega (arith, e.1, m_low), e.0)
-        once (suc zero) zero m n s_in t_in m_low n_low same = let e = P.once (j + m) (j - n) (omega (arith, at_f.1, m_low)) (omega (arith, at_f.1)) same in inl (omega (arith, e, n_low), omega (arith, e, n_low))
+        once (suc zero) zero m n s_in t_in m_low n_low same = let e = P.once (j + m) (j - n) (omega (arith, at_f.1, m_low)) (omega (arith, at_f.1)) same in inl
+            (omega (arith, e, n_low), omega (arith, e, n_low))
         once (suc zero) (suc zero) m n s_in t_in m_low n_low same = let e = P.once (j + m) (j + n) (omega (arith, at_f.1, m_low)) (omega (arith, at_f.1, n_low)) same in inr (refl, omega (arith, e))
         once (suc zero) (suc (suc t)) m n s_in t_in m_low n_low same = let e = third n (j + m) n_low (omega (arith, at_f.1, m_low)) (sym same) in inl (omega (arith, e.1), e.0)
         once (suc (suc s)) zero m n s_in t_in m_low n_low same = let e = third m (j - n) m_low (omega (arith, at_f.1)) same in inl (e.0, omega (arith, e.1, n_low))

@@ -14,13 +14,12 @@ use Rattle.xn_genus.proofs.Nodes.{lone_from}
 use Rattle.xn_surgery.specs.Corners.{after}
 use Rattle.xn_surgery.specs.Overlay.{IsOverlay}
 use Rattle.xn_surgery.proofs.Overlay.{overlay_flat, overlay_map}
-use Rattle.xn_surgery.proofs.OverlayComponents.{tail-left, tail-right}
+use Rattle.xn_surgery.proofs.OverlayComponents.{EndsIn-both, tail-left, tail-right}
 use Rattle.xn_fewer.specs.Flat.{HasFlat, both, called, merged}
 use Rattle.xn_fewer.proofs.Flats.{Permutes-exchanged, fewer_flat, inserted_flat, more_flat, named_flat, picked_flat}
 use Rattle.xn_fewer.proofs.Lists.{at_back, at_both, at_front, at_last, both-append, both-none, both-same, called-at, called-other, cases_exchanged, exchanged, length-both, lone_ends, map-map, merged-lone, tail_both}
 use Rattle.xn_kuratowski.specs.Flat.{ShareOnlyTwo, UnionAtANodeStaysFlat, UnionAtASegmentStaysFlat}
 use Rattle.xn_kuratowski.proofs.Contract.{contracted_flat}
-use Rattle.xn_kuratowski.proofs.Stars.{EndsIn-append}
 
 -- ---- two rotations beside each other
 
@@ -114,7 +113,8 @@ union_at_node nodes u first second share one two = elim (cases_Bool (is_lone fir
 
 -- ---- two nodes shared, and a segment between them in both
 
-module _ (nodes u v : ℕ) (first second : List (ℕ × ℕ)) (other : u ≢ v) (share : ShareOnlyTwo first second u v) (one : HasFlat nodes (first ++ (u, v) ∷ [])) (two : HasFlat nodes (second ++ (u, v) ∷ [])) where
+module _ (nodes u v : ℕ) (first second : List (ℕ × ℕ)) (other : u ≢ v) (share : ShareOnlyTwo first second u v) (one : HasFlat nodes (first ++ (u, v) ∷ []))
+    (two : HasFlat nodes (second ++ (u, v) ∷ [])) where
   abbrev left : List (ℕ × ℕ)
   left = first ++ (u, v) ∷ []
 
@@ -330,7 +330,7 @@ module _ (nodes u v : ℕ) (first second : List (ℕ × ℕ)) (other : u ≢ v) 
       subst P (at_front ends ((u, v) ∷ []) s s_in) (EndsIn_at nodes (ends ++ (u, v) ∷ []) ends_in s (omega (arith, s_in, size))))
 
   both_flat : HasFlat nodes (first ++ second)
-  both_flat = fewer_flat nodes (first ++ second) (EndsIn-append nodes first second (ends_in_front first one.is_map.ends_in) (ends_in_front second two.is_map.ends_in)) without_both
+  both_flat = fewer_flat nodes (first ++ second) (EndsIn-both nodes first second (ends_in_front first one.is_map.ends_in) (ends_in_front second two.is_map.ends_in)) without_both
 
 pub union_at_segment : UnionAtASegmentStaysFlat
 union_at_segment nodes u v first second other share one two = both_flat nodes u v first second other share one two

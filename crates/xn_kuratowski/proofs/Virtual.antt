@@ -6,7 +6,7 @@ use Rattle.xn_model.specs.Lists.{has}
 use Rattle.xn_model.specs.Map.{Joined, is_lone}
 use Rattle.xn_model.proofs.ComponentWalks.{joined_sym, joined_trans}
 use Rattle.xn_genus.proofs.Kept.{EndsIn_at}
-use Rattle.xn_fewer.proofs.Flats.{lone_not_joined}
+use Rattle.xn_surgery.proofs.InsertFlat.{lone_apart}
 use Rattle.xn_fewer.proofs.Lists.{at_back, at_front, lone_ends}
 use Rattle.xn_fewer.proofs.Walks.{filter_to, joined_closed, joined_ends, joined_over, joined_same, joined_within, walk_leaves}
 use Rattle.xn_kuratowski.specs.Flat.{ShareOnlyTwo}
@@ -89,7 +89,7 @@ module _ (nodes u v : ℕ) (first second : List (ℕ × ℕ)) (first_in : EndsIn
     | inl same ↦ same
     | inr not_u ↦ elim (share w not_u (not_v w h)) [
       | inl alone ↦ absurd (both_ways _ used alone)
-      | inr alone ↦ absurd (lone_not_joined second w u alone not_u (joined_sym second u w (longer u w (D_to w h).1)))
+      | inr alone ↦ absurd (lone_apart second w u alone not_u (joined_sym second u w (longer u w (D_to w h).1)))
     ]
   ]
     where
