@@ -7,6 +7,7 @@ pub mod Inserted
 pub mod IntoLoose
 pub mod Joining
 pub mod Land
+pub mod MeetOnce
 pub mod OneMore
 pub mod Renamed
 pub mod RoutesThere
