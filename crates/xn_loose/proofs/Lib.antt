@@ -9,6 +9,7 @@ pub mod Joining
 pub mod Land
 pub mod MeetOnce
 pub mod OneMore
+pub mod OnlyWalked
 pub mod Renamed
 pub mod RoutesThere
 pub mod Shortest
