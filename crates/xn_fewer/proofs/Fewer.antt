@@ -9,6 +9,7 @@ use Rattle.xn_model.specs.Map.{IsFlat}
 use Rattle.xn_model.specs.Orders.{IsOrders, crossings_of}
 use Rattle.xn_model.specs.Web.{crossing_node, segments_of, segments_through, web_of}
 use Rattle.xn_genus.proofs.Kept.{EndsIn_at}
+use Rattle.xn_surgery.proofs.OverlayComponents.{EndsIn-both}
 use Rattle.xn_fewer.specs.Flat.{HasFlat, both}
 use Rattle.xn_fewer.specs.Laws.{FewerEdgesStayFlat, IsRestriction}
 use Rattle.xn_fewer.proofs.Crossings.{IsCross, crossing_at, crossings_apart, node_apart, node_facts, node_turned, not_of_itself}
@@ -35,10 +36,6 @@ map-twice f h k (x ∷ xs) each = ap₂ (λ y ys. y ∷ ys) (each x (has-first x
 
 -- ---- ends of segments
 
-ends-append : (n : ℕ) (ps qs : List (ℕ × ℕ)) → EndsIn n ps → EndsIn n qs → EndsIn n (ps ++ qs)
-ends-append n [] qs one two = two
-ends-append n (p ∷ ps) qs one two = (one.0, one.1, ends-append n ps qs one.2 two)
-
 pub ends-through : (n u v : ℕ) (mid : ℕ → ℕ) (xs : List ℕ) → ((x : ℕ) → has xs x ≡ true → mid x < n) → u < n → v < n → EndsIn n (segments_through u (map mid xs) v)
 ends-through n u v mid [] each u_in v_in = (u_in, v_in, tt)
 ends-through n u v mid (x ∷ xs) each u_in v_in =
@@ -47,7 +44,7 @@ ends-through n u v mid (x ∷ xs) each u_in v_in =
 
 pub ends-flat_map : (n : ℕ) (f : ℕ → List (ℕ × ℕ)) (es : List ℕ) → ((e : ℕ) → has es e ≡ true → EndsIn n (f e)) → EndsIn n (flat_map f es)
 ends-flat_map n f [] each = tt
-ends-flat_map n f (e ∷ es) each = ends-append n (f e) (flat_map f es) (each e (has-first e es)) (ends-flat_map n f es (λ x x_in. each x (has-later e es x x_in)))
+ends-flat_map n f (e ∷ es) each = EndsIn-both n (f e) (flat_map f es) (each e (has-first e es)) (ends-flat_map n f es (λ x x_in. each x (has-later e es x x_in)))
 
 module _ (g : Graph) (is_graph : IsGraph g) (edges small : List ℕ) (ord less : ℕ → List ℕ) (all : IsOrders g.ends edges ord) (some : IsOrders g.ends small less)
     (part : IsRestriction edges small ord less) (next : ℕ → ℕ) (flat : IsFlat (web_of g edges ord) next) where
@@ -100,10 +97,22 @@ module _ (g : Graph) (is_graph : IsGraph g) (edges small : List ℕ) (ord less :
   Small e f = IsCross g.nodes small small_rising less some.both_ways e f
 
   big_cross : (e f : ℕ) → has (ord e) f ≡ true → Big e f
-  big_cross e f crosses = record { e_in = all.within e f crosses; f_in = all.within f e (all.both_ways e f crosses); crosses = crosses; differ = not_of_itself g.ends e f (all.independent e f crosses) }
+  big_cross e f crosses = record {
+    e_in = all.within e f crosses;
+    f_in = all.within f e (all.both_ways e f crosses);
+    crosses = crosses;
+    differ = not_of_itself g.ends e f
+        (all.independent e f crosses);
+  }
 
   small_cross : (e f : ℕ) → has (less e) f ≡ true → Small e f
-  small_cross e f crosses = record { e_in = some.within e f crosses; f_in = some.within f e (some.both_ways e f crosses); crosses = crosses; differ = not_of_itself g.ends e f (some.independent e f crosses) }
+  small_cross e f crosses = record {
+    e_in = some.within e f crosses;
+    f_in = some.within f e (some.both_ways e f crosses);
+    crosses = crosses;
+    differ = not_of_itself g.ends e f
+        (some.independent e f crosses);
+  }
 
   -- ---- the web, with these edges and the crossings among them alone
 

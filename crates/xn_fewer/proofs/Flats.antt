@@ -11,7 +11,7 @@ use Rattle.xn_genus.specs.Renumbering.{IsNodeRemoval, IsNodeRenumbering}
 use Rattle.xn_genus.proofs.Compress.{tail_in}
 use Rattle.xn_genus.proofs.Counts.{Permutes-face}
 use Rattle.xn_genus.proofs.Lone.{dart_if_not_lone, no_dart_if_lone}
-use Rattle.xn_genus.proofs.Nodes.{alone_walk, components_fewer, components_more, components_of_nodes, faces_fewer, faces_of_nodes, lone_from, lone_more, map_fewer, map_of_nodes}
+use Rattle.xn_genus.proofs.Nodes.{components_fewer, components_more, components_of_nodes, faces_fewer, faces_of_nodes, lone_from, lone_more, map_fewer, map_of_nodes}
 use Rattle.xn_genus.proofs.Nodes.{map_more as map_more_nodes}
 use Rattle.xn_genus.proofs.Part.{flat_of_part, map_of_part, passes_over}
 use Rattle.xn_surgery.specs.Corners.{Corner, InOneFace, IsCornerOf, after, lone, node_of, stand_at}
@@ -80,7 +80,8 @@ module _ (ends part : List (ℕ × ℕ)) (σ : ℕ → ℕ) (is : IsSelection en
         | inr turned ↦ (1 - j % 2, omega arith, ap (λ b. 2 * σ (j / 2) + b) (turned.1 (j % 2)))
       ]
 
-  both_numbers : (i : ℕ) → i < length part → ((dart (2 * i) ≡ 2 * σ i) × (dart (2 * i + 1) ≡ 2 * σ i + 1) × ((ends_at part i).0 ≡ (ends_at ends (σ i)).0) × ((ends_at part i).1 ≡ (ends_at ends (σ i)).1))
+  both_numbers : (i : ℕ) → i < length part → ((dart (2 * i) ≡ 2 * σ i) × (dart (2 * i + 1) ≡ 2 * σ i + 1) × ((ends_at part i).0 ≡ (ends_at ends (σ i)).0) ×
+      ((ends_at part i).1 ≡ (ends_at ends (σ i)).1))
       ⊎ ((dart (2 * i) ≡ 2 * σ i + 1) × (dart (2 * i + 1) ≡ 2 * σ i) × ((ends_at part i).0 ≡ (ends_at ends (σ i)).1) × ((ends_at part i).1 ≡ (ends_at ends (σ i)).0))
   both_numbers i i_in = elim (cases_bit i i_in) [
     | inl as_is ↦ inl (omega (arith, even_dart i, as_is.1 0), omega (arith, odd_dart i, as_is.1 1), as_is.0.0, as_is.0.1)
@@ -260,10 +261,6 @@ bridge_flat nodes x y ends x_in y_in apart has =
     let a = corner_at nodes ends x x_in in
     let b = corner_at nodes ends y y_in in
     inserted_flat nodes ends has.next a.0 b.0 x y has.is_map has.flat a.1 b.1 a.2 b.2 (λ same. apart ([], same)) (inr apart)
-
--- a lone node is joined to no other
-pub lone_not_joined : (ends : List (ℕ × ℕ)) (u v : ℕ) → is_lone ends u ≡ true → u ≢ v → Joined ends u v → ⊥
-lone_not_joined ends u v alone other there = other (alone_walk ends u v there.0 (no_dart_if_lone ends u alone) there.1)
 
 pub parallel_flat : ParallelStaysFlat
 parallel_flat nodes s ends s_in other has =

@@ -1,17 +1,13 @@
 -- Webs that have a flat map still have one where segments go, or a node of two darts is passed over.
-use Rattle.std.proofs.Common.{◌≡◌, ◌≢◌, ℕ, suc, ◌+◌, ◌-◌, ◌*◌, ◌/◌, ◌%◌, ◌<◌, ◌≤◌, ◌⊎◌, inl, inr, true, cond, eqb, ltb, List, [], ◌∷◌, ◌++◌, length, refl, sym, ◌∙◌, ap, ap₂, arith, length-append}
+use Rattle.std.proofs.Common.{◌≡◌, ◌≢◌, ℕ, suc, ◌+◌, ◌-◌, ◌*◌, ◌<◌, ◌≤◌, ◌⊎◌, inl, inr, true, cond, eqb, ltb, List, [], ◌∷◌, ◌++◌, length, refl, sym, ◌∙◌, ap, ap₂, arith, length-append}
 use Rattle.std.proofs.lemmas.Bool.{cases_eq, cases_lt, cond-true, cond-false, eq-eqb, ne_eqb, lt-ltb, le-ltb}
-use Rattle.std.proofs.lemmas.List.{get_or_append_left, get_or_at}
+use Rattle.std.proofs.lemmas.List.{get_or_at}
 use Rattle.xn_model.specs.Graph.{ends_at}
-use Rattle.xn_model.specs.Map.{face_step, is_lone, reverse_of, tail_of}
+use Rattle.xn_model.specs.Map.{face_step, is_lone, tail_of}
 use Rattle.xn_model.specs.Permutation.{Reaches}
-use Rattle.xn_model.proofs.Darts.{cases_dart, reverse-even, reverse-odd, tail-even, tail-odd}
+use Rattle.xn_model.proofs.Darts.{cases_dart, reverse-even, tail-even, tail-odd}
 use Rattle.xn_ring.proofs.Orbits.{source_of}
-use Rattle.xn_genus.specs.Part.{IsPart}
-use Rattle.xn_genus.proofs.Compress.{half_reverse}
 use Rattle.xn_genus.proofs.Counts.{stays_alone}
-use Rattle.xn_genus.proofs.Lone.{no_dart_if_lone}
-use Rattle.xn_genus.proofs.Part.{flat_of_part, map_of_part, passes_over}
 use Rattle.xn_surgery.specs.Corners.{Corner, after, node_of, stand_at}
 use Rattle.xn_surgery.specs.Insertion.{IsInsertion}
 use Rattle.xn_surgery.proofs.Insert.{map_more}
