@@ -1,7 +1,7 @@
 -- An edge comes into a track along a route.
 use Rattle.std.proofs.Common.{◌≡◌, ◌≢◌, ℕ, suc, ◌+◌, ◌*◌, ◌/◌, ◌<◌, ◌≤◌, ◌⊎◌, inl, inr, Bool, true, false, not, ◌&&◌, eqb, leb, List, [], ◌∷◌, ◌++◌, length, refl, sym, ◌∙◌, ap, subst, arith}
-use Rattle.std.specs.List.{flat_map}
-use Rattle.std.specs.Prelude.{All}
+use Rattle.std.specs.List.{IsDistinct, flat_map}
+use Rattle.std.specs.Prelude.{All, nat_eq}
 use Rattle.std.proofs.lemmas.Bool.{both_ways, cases_Bool, cases_eq, cond-true, cond-false, eq-eqb, leb-true, ne_eqb}
 use Rattle.xn_model.specs.Graph.{Graph, IsGraph, ends_at}
 use Rattle.xn_model.specs.Lists.{has, one_if, total}
@@ -15,7 +15,7 @@ use Rattle.xn_genus.proofs.Compress.{tail_in}
 use Rattle.xn_genus.proofs.Kept.{EndsIn_at}
 use Rattle.xn_fewer.proofs.Has.{has-first, has-later}
 use Rattle.xn_fewer.proofs.Rising.{distinct-rising, has-all, rising-from_increasing}
-use Rattle.xn_loose.specs.Inserting.{EdgesComeIn, IsOneMore}
+use Rattle.xn_loose.specs.Inserting.{EachMeetsOnce, EdgesComeIn, IsOneMore}
 use Rattle.xn_track.specs.Relinking.{Leads}
 use Rattle.xn_loose.specs.Routes.{AreFaceNames, IsWithin, RouteOf, dart_back, dart_on}
 use Rattle.xn_track.specs.Steps.{with_walk}
@@ -23,6 +23,7 @@ use Rattle.xn_track.specs.Track.{GoesOn, IsGround, IsTrack, straight_on}
 use Rattle.xn_loose.proofs.Across.{steps_across}
 use Rattle.xn_loose.proofs.Growing.{Exact, State, also_of_four, cursor_of, exact_stepped, four_new, now_cases, own', path_times, stepped, walks'}
 use Rattle.xn_loose.proofs.Land.{At, Fine, Landing, Seam, also, also_count, also_here, also_parts, new_fine, old_fine, old_seam, own_seam}
+use Rattle.xn_loose.proofs.MeetOnce.{Single, met-append, met_same, once_if_distinct, one_if-most, single_stepped, times_met}
 use Rattle.xn_loose.proofs.OneMore.{one_more_low, one_more_total, within_total}
 use Rattle.xn_track.proofs.Paths.{Path, path_append, path_ends_in, path_map, times-append}
 use Rattle.xn_track.proofs.Steps.{EdgePath, as_walk, edge_path}
@@ -55,7 +56,7 @@ module _ (g : Graph) (edges all : List ℕ) (e : ℕ) (is_graph : IsGraph g) (li
     pub have_darts : (v : ℕ) → n ≤ v → v < web.nodes → (d : ℕ) × (d < 2 * length web.ends) × (tail_of web.ends d ≡ v)
     pub all_walked : (t : ℕ) → t < length web.ends → 1 ≤ times_walked t (flat_map walks all)
 
-  pub record Done (count m : ℕ) (F : Type 0) : Type 0 where
+  pub record Done (count m : ℕ) (F S : Type 0) : Type 0 where
     pub web : Graph
     pub next : ℕ → ℕ
     pub four : ℕ → Bool
@@ -64,6 +65,7 @@ module _ (g : Graph) (edges all : List ℕ) (e : ℕ) (is_graph : IsGraph g) (li
     pub few : count_below web.nodes four ≤ count
     pub nodes_are : web.nodes ≡ m
     pub full : F → Full web four walks
+    pub single : S → (x v : ℕ) → has all x ≡ true → times_met web.ends v (walks x) ≤ 1
 
   module _ (web : Graph) (next : ℕ → ℕ) (four : ℕ → Bool) (name : ℕ → ℕ) (whole : ℕ → Bool) (y b q : ℕ) (walks : ℕ → List ℕ) (own : List ℕ)
       (st : State g edges u web next four name whole y b q walks own) (z : ℕ) (z_in : z < 2 * length web.ends) (at_z : tail_of web.ends z ≡ v) (ends' : List (ℕ × ℕ)) (after names : ℕ → ℕ)
@@ -250,7 +252,31 @@ module _ (g : Graph) (edges all : List ℕ) (e : ℕ) (is_graph : IsGraph g) (li
           ];
     }
 
-    pub ended : Done (count_below web.nodes four + one_if (leb g.nodes (tail_of web.ends y))) web.nodes (Exact g.nodes edges web four y walks own)
+    own_same : (k : ℕ) → times_met ends' k own ≡ times_met web.ends k own
+    own_same k = elim st.cursor [
+      | inl start ↦ subst (λ l. times_met ends' k l ≡ times_met web.ends k l) (sym start.2) refl
+      | inr old ↦ met_same web.ends ends' (Seam n web next four y q) last W.tails old.from b own old.path k
+    ]
+
+    single'' : Single edges web name whole y walks own → (x k : ℕ) → has all x ≡ true → times_met ends' k (walks'' x) ≤ 1
+    single'' once x k x_in = elim (cases_eq x e) [
+      | inl is ↦
+          let here : times_met ends' k (walks'' x) ≡ times_met ends' k own'' = ap (times_met ends' k) (cond-true _ _ _ (eq-eqb x e is)) in
+          let sum = met-append ends' k own (a ∷ []) in
+          let same = own_same k in
+          let tip_it : one_if (eqb (tail_of ends' a) k) ≡ one_if (eqb (tail_of web.ends y) k) = ap (λ w. one_if (eqb w k)) W.tail_from in
+          let was = once.own_once k in
+          omega (arith, here, sum, same, tip_it, was)
+      | inr other ↦
+          let old : has edges x ≡ true = elim (more_edges.only x x_in) [ inl is ↦ absurd (other is) | inr o ↦ o ] in
+          let here : times_met ends' k (walks'' x) ≡ times_met ends' k (walks x) = ap (times_met ends' k) (cond-false _ _ _ (ne_eqb x e other)) in
+          let r = st.strands x old in
+          let same = met_same web.ends ends' (Seam n web next four y q) last W.tails r.from r.to (walks x) r.path k in
+          let was = once.each x k old in
+          omega (arith, here, same, was)
+    ]
+
+    pub ended : Done (count_below web.nodes four + one_if (leb g.nodes (tail_of web.ends y))) web.nodes (Exact g.nodes edges web four y walks own) (Single edges web name whole y walks own)
     ended =
         let P : ℕ → List ℕ → Type 0 = λ x ds. WalksTo ends' (ends_at g.ends x).0 ds (ends_at g.ends x).1 × GoesOn g.nodes ends' (straight_on ends' four' after) ds in
         let walk : (x : ℕ) → has all x ≡ true → P x (walks'' x) = λ x x_in. elim (cases_eq x e) [
@@ -276,6 +302,7 @@ module _ (g : Graph) (edges all : List ℕ) (e : ℕ) (is_graph : IsGraph g) (li
           few = also_count four n (tail_of web.ends y) web.nodes;
           nodes_are = refl;
           full = fullness;
+          single = single'';
           track = record {
             edge_list = more_edges.edge_list;
             ground = ground';
@@ -306,16 +333,16 @@ module _ (g : Graph) (edges all : List ℕ) (e : ℕ) (is_graph : IsGraph g) (li
   pub along : (ds : List ℕ) (web : Graph) (next : ℕ → ℕ) (four : ℕ → Bool) (name : ℕ → ℕ) (whole : ℕ → Bool) (y b q : ℕ) (walks : ℕ → List ℕ) (own : List ℕ) →
       State g edges u web next four name whole y b q walks own → (z : ℕ) → z < 2 * length web.ends → tail_of web.ends z ≡ v → Low (2 * length web.ends) ds → RouteOf name whole (name y) ds z →
       (count m : ℕ) → count_below web.nodes four + one_if (leb g.nodes (tail_of web.ends y)) + length ds ≤ count → web.nodes + length ds ≡ m →
-      (F : Type 0) → (F → Exact g.nodes edges web four y walks own) → Done count m F
-  along [] web next four name whole y b q walks own st z z_in at_z low route count m room nodes_are F exact =
+      (F S : Type 0) → (F → Exact g.nodes edges web four y walks own) → (S → Single edges web name whole y walks own) → Done count m F S
+  along [] web next four name whole y b q walks own st z z_in at_z low route count m room nodes_are F S exact single =
       let two : tail_of web.ends y ≢ tail_of web.ends z = λ same. elim st.cursor [
         | inl start ↦ is_graph.no_loop e e_low (sym start.0 ∙ same ∙ at_z)
         | inr grown ↦ let high = grown.at.high in let v_low = e_ends.1 in omega (arith, high, same, at_z, v_low)
       ] in
       let step = steps_within web.nodes web.ends next name whole st.is_flat_map.is_map st.is_flat_map.flat st.faces y z st.y_in z_in route.0 (sym route.1) two in
       let done = ended web next four name whole y b q walks own st z z_in at_z step.0 step.1 step.2 step.3 in
-      record { web = done.web; next = done.next; four = done.four; walks = done.walks; track = done.track; few = let few = done.few in omega (arith, few, room); nodes_are = let eq = done.nodes_are in omega (arith, eq, nodes_are); full = λ f. done.full (exact f) }
-  along (d ∷ ds) web next four name whole y b q walks own st z z_in at_z low route count m room nodes_are F exact =
+      record { web = done.web; next = done.next; four = done.four; walks = done.walks; track = done.track; few = let few = done.few in omega (arith, few, room); nodes_are = let eq = done.nodes_are in omega (arith, eq, nodes_are); full = λ f. done.full (exact f); single = λ s. done.single (single s) }
+  along (d ∷ ds) web next four name whole y b q walks own st z z_in at_z low route count m room nodes_are F S exact single =
       let step = steps_across web.nodes web.ends next name whole st.is_flat_map.is_map st.is_flat_map.flat st.faces y d st.y_in low.0 route.0 (sym route.1) in
       let A = step.3 in
       let last = length web.ends in
@@ -333,9 +360,13 @@ module _ (g : Graph) (edges all : List ℕ) (e : ℕ) (is_graph : IsGraph g) (li
       let bit = at_most (leb g.nodes (tail_of step.0 (dart_back last d))) in
       along ds web' step.1 four' step.2 (λ k. whole k && not (eqb k (name y))) (dart_back last d) (2 * suc last + 1) (dart_on last d)
       (walks' g edges u web next four name whole y b q walks own st d low.0 step.0 step.1 step.2 A) (own' g edges u web next four name whole y b q walks own st d low.0 step.0 step.1 step.2 A)
-      st' (now z) (omega (arith, z_now, z_in, size)) (A.tails z z_in ∙ at_z) rest_low (subst P (sym A.name_back) kept) count m (omega (arith, few, none, bit, room)) (omega (arith, nodes_are)) F
+      st' (now z) (omega (arith, z_now, z_in, size)) (A.tails z z_in ∙ at_z) rest_low (subst P (sym A.name_back) kept) count m (omega (arith, few, none, bit, room)) (omega (arith, nodes_are)) F S
       (λ f. exact_stepped g edges u web next four name whole y b q walks own st d low.0 step.0 step.1 step.2 A (exact f))
+      (λ s. single_stepped g edges distinct u web next four name whole y b q walks own st d low.0 step.0 step.1 step.2 A route.0 (sym route.1) (single s))
     where
+      distinct : IsDistinct nat_eq edges
+      distinct = distinct-rising edges (rising-from_increasing edges list.rise)
+
       at_most : (c : Bool) → one_if c ≤ 1
       at_most true = omega arith
       at_most false = omega arith
@@ -344,7 +375,7 @@ pub come_in : (g : Graph) (edges all : List ℕ) (e : ℕ) (web : Graph) (next :
     (more_edges : IsOneMore (length g.ends) edges e all) (e_low : e < length g.ends) → (name : ℕ → ℕ) → AreFaceNames web.ends next name (λ c. true) →
     (y z : ℕ) (ds : List ℕ) → y < 2 * length web.ends → z < 2 * length web.ends → All (λ d. d < 2 * length web.ends) ds →
     tail_of web.ends y ≡ (ends_at g.ends e).0 → tail_of web.ends z ≡ (ends_at g.ends e).1 → RouteOf name (λ c. true) (name y) ds z →
-    Done g edges all e is_graph track.edge_list more_edges e_low (count_below web.nodes four + length ds) (web.nodes + length ds) (Exact g.nodes edges web four y walks [])
+    Done g edges all e is_graph track.edge_list more_edges e_low (count_below web.nodes four + length ds) (web.nodes + length ds) (Exact g.nodes edges web four y walks []) (EachMeetsOnce edges web.ends walks)
 come_in g edges all e web next four walks is_graph track more_edges e_low name faces y z ds y_in z_in ds_in at_y at_z route =
     let ends_e = EndsIn_at g.nodes g.ends is_graph.ends_in e e_low in
     let u_low : tail_of web.ends y < g.nodes = omega (arith, at_y, ends_e) in
@@ -378,7 +409,12 @@ come_in g edges all e web next four walks is_graph track more_edges e_low name f
       once = λ t. let once = track.once t in omega (arith, once);
     } in
     let done = along g edges all e is_graph track.edge_list more_edges e_low ds web next four name (λ c. true) y y y walks [] st z z_in at_z (all_low (2 * length web.ends) ds ds_in) route
-    (count_below web.nodes four + length ds) (web.nodes + length ds) (omega (arith, none)) refl (Exact g.nodes edges web four y walks []) (λ x. x) in
+    (count_below web.nodes four + length ds) (web.nodes + length ds) (omega (arith, none)) refl (Exact g.nodes edges web four y walks []) (EachMeetsOnce edges web.ends walks) (λ x. x)
+    (λ once. record {
+      each = λ x k x_in. once_if_distinct web.ends (walks x) (once x x_in) k;
+      own_once = λ k. let most = one_if-most (eqb (tail_of web.ends y) k) in omega (arith, most);
+      closed = λ x x_in some. absurd (omega (arith, some));
+    }) in
     done
   where
     all_low : (m : ℕ) (ds : List ℕ) → All (λ d. d < m) ds → Low g edges all e is_graph track.edge_list more_edges e_low m ds

@@ -13,6 +13,7 @@ use Rattle.xn_loose.specs.Inserting.{EdgesComeIntoLooseDrawings}
 use Rattle.xn_track.specs.Track.{GoesOn, IsGround, straight_on}
 use Rattle.xn_loose.proofs.Growing.{Exact}
 use Rattle.xn_loose.proofs.Inserted.{come_in}
+use Rattle.xn_loose.proofs.MeetOnce.{distinct_if_once}
 use Rattle.xn_loose.proofs.OneMore.{one_more_low}
 use Rattle.xn_loose.proofs.InWeb.{count_listed}
 use Rattle.xn_track.proofs.Loose.{crossing_by_count, loose_drawings_are_tracks}
@@ -121,4 +122,5 @@ edges_come_into_loose_drawings g edges all e further web next walks loose more_e
             let d = full.have_darts v high v_in in
             ap (dart_count done.web.ends) (sym d.2) ∙ ring_of_four g.nodes done.web done.next done.four new.ground d.0 d.1 (ap done.four d.2 ∙ full.all_four v high v_in);
       },
+      λ once x x_in. distinct_if_once done.web.ends (done.walks x) (λ v. done.single once x v x_in),
     )

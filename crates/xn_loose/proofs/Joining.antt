@@ -1,10 +1,11 @@
 -- An edge joins two components of a loose drawing.
-use Rattle.std.proofs.Common.{◌≡◌, ◌≢◌, ℕ, suc, ◌+◌, ◌*◌, ◌/◌, ◌<◌, ◌≤◌, inl, inr, Bool, true, eqb, List, [], ◌∷◌, ◌++◌, length, refl, sym, ◌∙◌, ap, subst, arith, length-append}
-use Rattle.std.specs.List.{flat_map}
+use Rattle.std.proofs.Common.{◌≡◌, ◌≢◌, ℕ, suc, ◌+◌, ◌*◌, ◌/◌, ◌<◌, ◌≤◌, inl, inr, Bool, true, eqb, List, [], ◌∷◌, ◌++◌, length, map, refl, sym, ◌∙◌, ap, ap₂, subst, arith, length-append}
+use Rattle.std.specs.List.{IsDistinct, flat_map}
+use Rattle.std.specs.Prelude.{nat_eq}
 use Rattle.std.proofs.lemmas.Bool.{both_ways, cases_Bool, cases_eq, cond-true, cond-false, eq-eqb, ne_eqb}
 use Rattle.xn_model.specs.Graph.{Graph, ends_at}
 use Rattle.xn_model.specs.Lists.{has, one_if, total}
-use Rattle.xn_model.specs.Loose.{GoesStraight, IsLoose, dart_count, times_walked}
+use Rattle.xn_model.specs.Loose.{GoesStraight, IsLoose, MeetsOnce, dart_count, times_walked}
 use Rattle.xn_model.specs.Map.{IsMap, Joined, WalksTo, is_lone, reverse_of, tail_of}
 use Rattle.xn_model.specs.Permutation.{count_below}
 use Rattle.xn_model.proofs.Darts.{reverse-even, reverse_below, tail-push, tail-push_even, tail-push_odd}
@@ -17,8 +18,9 @@ use Rattle.xn_surgery.proofs.Insert.{map_more}
 use Rattle.xn_surgery.proofs.InsertFlat.{insertion_flat}
 use Rattle.xn_surgery.proofs.Stand.{alone_other, stand_other}
 use Rattle.xn_fewer.proofs.Rising.{distinct-rising, rising-from_increasing}
-use Rattle.xn_loose.specs.Inserting.{EdgesJoinComponents, IsOneMore}
+use Rattle.xn_loose.specs.Inserting.{EachMeetsOnce, EdgesJoinComponents, IsOneMore}
 use Rattle.xn_track.specs.Steps.{with_walk}
+use Rattle.xn_loose.proofs.MeetOnce.{distinct_if_once, one_if-most}
 use Rattle.xn_loose.proofs.OneMore.{one_more_low, within_total}
 use Rattle.xn_track.proofs.Loose.{not_walked}
 use Rattle.xn_track.proofs.Tally.{but, but_there, same_total, times-flat_map, total-le, total-out}
@@ -55,6 +57,10 @@ straight_push n ends p next turn same u v (d ∷ d' ∷ ds) walk goes =
     let one = same (reverse_of d) r_in (let high = goes.0 in let eq = walk.2.1 in omega (arith, high, eq)) in
     let two = same (next (reverse_of d)) one.1 one.2 in
     (let high = goes.0 in omega (arith, high, tail), ap turn one.0 ∙ two.0 ∙ goes.1, straight_push n ends p next turn same (tail_of ends (reverse_of d)) v (d' ∷ ds) walk.2 goes.2)
+
+tails_push : (ends : List (ℕ × ℕ)) (p : ℕ × ℕ) (u v : ℕ) (ds : List ℕ) → WalksTo ends u ds v → map (tail_of (ends ++ p ∷ [])) ds ≡ map (tail_of ends) ds
+tails_push ends p u v [] walk = refl
+tails_push ends p u v (d ∷ ds) walk = ap₂ ◌∷◌ (tail-push ends p d walk.0) (tails_push ends p (tail_of ends (reverse_of d)) v ds walk.2)
 
 module _ (g : Graph) (edges all : List ℕ) (e further : ℕ) (web : Graph) (next : ℕ → ℕ) (walks : ℕ → List ℕ) (loose : IsLoose g edges further web next walks)
     (more_edges : IsOneMore (length g.ends) edges e all) (e_low : e < length g.ends) (apart : Joined web.ends (ends_at g.ends e).0 (ends_at g.ends e).1 → ⊥) where
@@ -205,6 +211,15 @@ module _ (g : Graph) (edges all : List ℕ) (e further : ℕ) (web : Graph) (nex
         four = four';
       }
 
+  pub joined_once : EachMeetsOnce edges web.ends walks → EachMeetsOnce all web'.ends walks'
+  joined_once once x x_in = elim (cases_eq x e) [
+    | inl is ↦ subst (MeetsOnce web'.ends) (sym (here x is)) (distinct_if_once web'.ends (2 * last ∷ []) (λ v. let most = one_if-most (eqb (tail_of web'.ends (2 * last)) v) in omega (arith, most)))
+    | inr other ↦
+        let o = old x x_in other in
+        let same = tails_push web.ends pair (ends_at g.ends x).0 (ends_at g.ends x).1 (walks x) (loose.lead x o) in
+        subst (MeetsOnce web'.ends) (sym (elsewhere x other)) (subst (IsDistinct nat_eq) (sym same) (once x o))
+  ]
+
 pub edges_join_components : EdgesJoinComponents
 edges_join_components g edges all e further web next walks loose more_edges apart =
     let e_low = one_more_low (length g.ends) edges all e more_edges in (
@@ -212,4 +227,5 @@ edges_join_components g edges all e further web next walks loose more_edges apar
       turn g edges all e further web next walks loose more_edges e_low apart,
       walks' g edges all e further web next walks loose more_edges e_low apart,
       joined_loose g edges all e further web next walks loose more_edges e_low apart,
+      joined_once g edges all e further web next walks loose more_edges e_low apart,
     )

@@ -7,7 +7,9 @@ pub mod Inserted
 pub mod IntoLoose
 pub mod Joining
 pub mod Land
+pub mod MeetOnce
 pub mod OneMore
+pub mod OnlyWalked
 pub mod Renamed
 pub mod RoutesThere
 pub mod Shortest

@@ -188,4 +188,4 @@ edges_come_in_by_least_routes g edges all e further r web next walks loose more_
     let some = least.route in
     let simple = least_simple web.nodes web.ends next names.0 map names.1 _ _ r some.0 least some.1 some.2 in
     let d = edges_come_into_loose_drawings g edges all e further web next walks loose more_edges names.0 names.1 some.0 simple in
-    (d.0, d.1, d.2, subst (λ k. IsLoose g all (further + k) d.0 d.1 d.2) some.2 d.3)
+    (d.0, d.1, d.2, subst (λ k. IsLoose g all (further + k) d.0 d.1 d.2) some.2 d.3, d.4)

@@ -3,7 +3,7 @@ use Rattle.std.specs.Prelude.{◌≡◌, ◌≢◌, ℕ, ◌+◌, ◌≤◌, tru
 use Rattle.xn_model.specs.Graph.{Graph, ends_at}
 use Rattle.xn_model.specs.Loose.{IsLoose, IsRoute, IsRouteLength}
 use Rattle.xn_model.specs.Map.{IsMap, Joined}
-use Rattle.xn_loose.specs.Inserting.{IsOneMore}
+use Rattle.xn_loose.specs.Inserting.{EachMeetsOnce, IsOneMore}
 use Rattle.xn_loose.specs.Routes.{AreFaceNames, IsSimpleRoute}
 
 -- between two joined nodes there is a route that meets no face twice
@@ -42,3 +42,4 @@ EdgesComeInByLeastRoutes =
     IsLoose g edges further web next walks → IsOneMore (length g.ends) edges e all →
     IsRouteLength web.ends next (ends_at g.ends e).0 (ends_at g.ends e).1 r →
     (more : Graph) × (after : ℕ → ℕ) × (longer : ℕ → List ℕ) × IsLoose g all (further + r) more after longer
+    × (EachMeetsOnce edges web.ends walks → EachMeetsOnce all more.ends longer)

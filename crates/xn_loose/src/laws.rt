@@ -1,5 +1,6 @@
 //! Laws on loose drawings. Each is the contract of a function with an empty body.
 ghost use Rattle.xn_loose.specs.Inserting.{EdgesComeIn, EdgesComeIntoLooseDrawings, EdgesJoinComponents};
+ghost use Rattle.xn_loose.specs.Parts.{PartsGiveDrawings, WalksGiveDrawings};
 ghost use Rattle.xn_loose.specs.Renaming.{DrawingsOfEdgesAreDrawings};
 ghost use Rattle.xn_loose.specs.Routes.{FacesHaveNames, StepsAcross, StepsWithin};
 ghost use Rattle.xn_loose.specs.Shortest.{EdgesComeInByLeastRoutes, LeastRoutesAreSimple, RouteLengthsAreThere, RoutesAreThere, RoutesBecomeSimple, SimpleRoutesAreRoutes};
@@ -46,4 +47,10 @@ pub fn shortest_routes()
 /// A drawing of some edges is a drawing of the graph of those edges.
 pub fn renaming()
     ensures { DrawingsOfEdgesAreDrawings }
+{}
+
+/// Some of the edges of a loose drawing have a drawing with no more crossings than there are nodes that their walks alone pass twice.
+pub fn parts()
+    ensures walks { WalksGiveDrawings }
+    ensures parts { PartsGiveDrawings }
 {}

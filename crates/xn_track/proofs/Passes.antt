@@ -297,6 +297,7 @@ module _ (g : Graph) (edges : List ℕ) (web : Graph) (next : ℕ → ℕ) (four
   pub record TwoGaps (x y v : ℕ) : Type 0 where
     pub four_is : four v ≡ true
     pub cross : turn (turn (2 * x + 1)) ≡ 2 * suc x
+    pub back : turn (turn (2 * suc x)) ≡ 2 * x + 1
     pub only : (z : ℕ) → Gap z v → (z ≡ x) ⊎ (z ≡ y)
 
   bend_orbit : (a b : ℕ) → next a ≡ b → next b ≡ a → (k : ℕ) → (iterate next k a ≡ a) ⊎ (iterate next k a ≡ b)
@@ -342,15 +343,15 @@ module _ (g : Graph) (edges : List ℕ) (web : Graph) (next : ℕ → ℕ) (four
             let c_holds : four (tail_of web.ends c) ≡ true = ap four at_c ∙ crosses in
             let on : next (next a) ≡ b = sym (cond-true _ _ _ holds) ∙ goes_straight x v gap in
             let c_on : next (next c) ≡ d = sym (cond-true _ _ _ c_holds) ∙ goes_straight y v hap in
-            let back : next (next b) ≡ a = ap (λ z. next (next z)) (sym on) ∙ (track.ground.crossing a a_low holds).1 in
-            let c_back : next (next d) ≡ c = ap (λ z. next (next z)) (sym c_on) ∙ (track.ground.crossing c c_low c_holds).1 in
-            let sides : ((next a ≡ c) × (next b ≡ d)) ⊎ ((next a ≡ d) × (next b ≡ c)) = elim (cross_orbit a b on back reach.0) [
+            let b_on : next (next b) ≡ a = ap (λ z. next (next z)) (sym on) ∙ (track.ground.crossing a a_low holds).1 in
+            let d_on : next (next d) ≡ c = ap (λ z. next (next z)) (sym c_on) ∙ (track.ground.crossing c c_low c_holds).1 in
+            let sides : ((next a ≡ c) × (next b ≡ d)) ⊎ ((next a ≡ d) × (next b ≡ c)) = elim (cross_orbit a b on b_on reach.0) [
               | inl at ↦ absurd (not_ac (sym at ∙ reach.1))
               | inr (inl at) ↦ let here : next a ≡ c = sym at ∙ reach.1 in inl (here, ap next (sym on) ∙ ap (λ z. next (next z)) here ∙ c_on)
               | inr (inr (inl at)) ↦ absurd (not_bc (sym at ∙ reach.1))
               | inr (inr (inr at)) ↦
                   let there : next b ≡ c = sym at ∙ reach.1 in
-                  inr (ap next (sym back) ∙ ap (λ z. next (next z)) there ∙ c_on, there)
+                  inr (ap next (sym b_on) ∙ ap (λ z. next (next z)) there ∙ c_on, there)
             ] in
             record {
               four_is = crosses;
@@ -364,6 +365,16 @@ module _ (g : Graph) (edges : List ℕ) (web : Graph) (next : ℕ → ℕ) (four
                     let two = step (2 * suc y) (2 * suc x) d_in b_in (ap next (sym s.0) ∙ on) in
                     ap turn one ∙ two
               ];
+              back = elim sides [
+                | inl s ↦
+                    let one = step (2 * suc x) (2 * suc y) b_in d_in s.1 in
+                    let two = step (2 * suc y) (2 * x + 1) d_in a_in (ap next (sym s.1) ∙ b_on) in
+                    ap turn one ∙ two
+                | inr s ↦
+                    let one = step (2 * suc x) (2 * y + 1) b_in c_in s.1 in
+                    let two = step (2 * y + 1) (2 * x + 1) c_in a_in (ap next (sym s.1) ∙ b_on) in
+                    ap turn one ∙ two
+              ];
               only = λ z zap.
                   let e = spot (2 * z + 1) in
                   let e_in = arrive_in z v zap in
@@ -372,7 +383,7 @@ module _ (g : Graph) (edges : List ℕ) (web : Graph) (next : ℕ → ℕ) (four
                   let is_b : e ≡ b → (z ≡ x) ⊎ (z ≡ y) = λ same. let i = is_part.apart _ _ e_in b_in same in absurd (omega (arith, i)) in
                   let is_c : e ≡ c → (z ≡ x) ⊎ (z ≡ y) = λ same. let i = is_part.apart _ _ e_in c_in same in inr (omega (arith, i)) in
                   let is_d : e ≡ d → (z ≡ x) ⊎ (z ≡ y) = λ same. let i = is_part.apart _ _ e_in d_in same in absurd (omega (arith, i)) in
-                  elim (cross_orbit a b on back to.0) [
+                  elim (cross_orbit a b on b_on to.0) [
                     | inl at ↦ is_a (sym to.1 ∙ at)
                     | inr (inl at) ↦ elim sides [ inl s ↦ is_c (sym to.1 ∙ at ∙ s.0) | inr s ↦ is_d (sym to.1 ∙ at ∙ s.0) ]
                     | inr (inr (inl at)) ↦ is_b (sym to.1 ∙ at)

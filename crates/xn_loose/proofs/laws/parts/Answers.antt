@@ -1,0 +1,8 @@
+use Rattle.xn_loose.proofs.OnlyWalked.{parts_give_drawings, walks_give_drawings}
+use Rattle.xn_loose.proofs.laws.parts.Goals as goal
+
+pub returns-clause-walks : goal.returns-clause-walks
+returns-clause-walks c = walks_give_drawings
+
+pub returns-clause-parts : goal.returns-clause-parts
+returns-clause-parts c = parts_give_drawings
