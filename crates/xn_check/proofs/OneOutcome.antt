@@ -6,7 +6,7 @@ use Rattle.xn_draw.proofs.Excluded.{no_flaw, one_flaw}
 use Rattle.xn_model.specs.Graph.{Graph}
 use Rattle.xn_kinds.specs.Bound.{IsBound}
 use Rattle.xn_kinds.specs.Row.{RowHolds}
-use Rattle.xn_kinds.specs.State.{Reached}
+use Rattle.xn_kinds.specs.State.{State}
 use Rattle.xn_kinds.specs.declared.flaws.DrawFlaw.{DrawFlaw}
 use Rattle.xn_kinds.specs.declared.flaws.Flaw.{Flaw}
 use Rattle.xn_kinds.specs.declared.flaws.FlawKind.{FlawKind}
@@ -143,13 +143,13 @@ module _ (g : Graph) (loops : ℕ) where
   bounds_meet : (a b : ℤ) → a ≤ℤ b → b ≤ℤ a → a ≡ b
   bounds_meet a b low high = omega (arith, ints, low, high)
 
-  one_bound : (rows : List Row) (t : Reached) (d : ℕ) (parts : List (ℕ × ℕ)) (a b : ℤ) → IsBound g rows t d parts a → IsBound g rows t d parts b → a ≡ b
+  one_bound : (rows : List Row) (t : State) (d : ℕ) (parts : List (ℕ × ℕ)) (a b : ℤ) → IsBound g rows t d parts a → IsBound g rows t d parts b → a ≡ b
   one_bound rows t d parts a b first second =
       bounds_meet a b
       (subst (λ (v : ℤ). a ≤ℤ v) second.met.2 (first.below_all second.met.0 second.met.1))
       (subst (λ (v : ℤ). b ≤ℤ v) first.met.2 (second.below_all first.met.0 first.met.1))
 
-  step_apart : (k : ℕ) (rows : List Row) (pending : List Reached) (n : ℕ) (node : Node) (kind : FlawKind) → KeepsFirst g k rows pending node →
+  step_apart : (k : ℕ) (rows : List Row) (pending : List State) (n : ℕ) (node : Node) (kind : FlawKind) → KeepsFirst g k rows pending node →
       StepFails g k rows pending n node kind → ⊥
   step_apart k rows [] n node kind keeps fails = keeps
   step_apart k rows (t ∷ pending) n (Pair e f) kind keeps fails = fails.0 keeps
@@ -162,7 +162,7 @@ module _ (g : Graph) (loops : ℕ) where
         is_weak.2 (subst (λ (b : ℤ). need_of k d <ℤ b) (one_bound rows t d parts strong.0 is_weak.0 strong.1 is_weak.1) strong.2)
   ]
 
-  leaf_one : (k : ℕ) (rows : List Row) (t : Reached) (n d : ℕ) (parts : List (ℕ × ℕ)) (x y : FlawKind) →
+  leaf_one : (k : ℕ) (rows : List Row) (t : State) (n d : ℕ) (parts : List (ℕ × ℕ)) (x y : FlawKind) →
       NodeFails g k rows t n (Leaf d parts) x → NodeFails g k rows t n (Leaf d parts) y → x ≡ y
   leaf_one k rows t n d parts x y first second = elim first [
     | inl a ↦ elim second [
@@ -178,7 +178,7 @@ module _ (g : Graph) (loops : ℕ) where
     ]
   ]
 
-  step_one : (k : ℕ) (rows : List Row) (pending : List Reached) (n : ℕ) (node : Node) (x y : FlawKind) → StepFails g k rows pending n node x →
+  step_one : (k : ℕ) (rows : List Row) (pending : List State) (n : ℕ) (node : Node) (x y : FlawKind) → StepFails g k rows pending n node x →
       StepFails g k rows pending n node y → x ≡ y
   step_one k rows [] n node x y first second = first ∙ sym second
   step_one k rows (t ∷ pending) n (Pair e f) x y first second = first.1 ∙ sym second.1

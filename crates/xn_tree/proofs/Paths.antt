@@ -22,7 +22,7 @@ path_is_state g [] may = empty_is_state g
 path_is_state g (Decided e f x ∷ path) may =
     decided_state g (state_after path) (path_is_state g path may.1) e f (Some x) may.0.0 may.0.1 may.0.2 may.0.3
 path_is_state g (Placed e f i ∷ path) may =
-    placed_state g (state_after path) (path_is_state g path may.1) e f i may.0.0 may.0.1
+    placed_state g (state_after path) (path_is_state g path may.1) e f i may.0.0.0 may.0.0.1
 
 -- ---- a decided pair
 
@@ -134,7 +134,7 @@ module _ (g : Graph) (s : State) (e f i : ℕ) (rest : List Choice) (top : IsPat
   pub edge_in : e < length g.ends
   edge_in =
       let is_state = path_is_state g rest top.may.1 in
-      elim top.may.0.0 [
+      elim top.may.0.0.0 [
         | inl is ↦ omega (arith, is_state.rises e f true is, is_state.below e f true is)
         | inr is ↦ is_state.below f e true is
       ]
@@ -142,18 +142,18 @@ module _ (g : Graph) (s : State) (e f i : ℕ) (rest : List Choice) (top : IsPat
   pub placed_length : length (s.placed e) ≡ length ((state_after rest).placed e) + 1
   placed_length =
       let b = state_after rest in
-      ap (λ t. length (t.placed e)) top.state ∙ ap length (placed_at b e f i) ∙ length-insert (b.placed e) i f top.may.0.2
+      ap (λ t. length (t.placed e)) top.state ∙ ap length (placed_at b e f i) ∙ length-insert (b.placed e) i f top.may.0.1
 
   pub position_in : i < length (s.placed e)
-  position_in = omega (arith, placed_length, top.may.0.2)
+  position_in = omega (arith, placed_length, top.may.0.1)
 
   pub unplaced_is : unplace s e i ≡ state_after rest
-  unplaced_is = ap (λ t. unplace t e i) top.state ∙ unplace-place (state_after rest) e f i top.may.0.2
+  unplaced_is = ap (λ t. unplace t e i) top.state ∙ unplace-place (state_after rest) e f i top.may.0.1
 
   pub placed_next : i + 1 < length (s.placed e) → (t : State) → t ≡ shift s e i → IsPath g t (Placed e f (i + 1) ∷ rest)
   placed_next more t is = record {
     state = is ∙ ap (λ u. shift u e i) top.state ∙ shift-place (state_after rest) e f i (omega (arith, placed_length, more));
-    may = ((top.may.0.0, top.may.0.1, omega (arith, placed_length, more)), top.may.1);
+    may = ((top.may.0.0, omega (arith, placed_length, more)), top.may.1);
   }
 
   pub owed_next : i + 1 < length (s.placed e) → owed (Placed e f i ∷ rest) ≡ state_after (Placed e f (i + 1) ∷ rest) ∷ owed (Placed e f (i + 1) ∷ rest)
