@@ -14,7 +14,7 @@ use std::alloc::Global;
 use xn_graph::Graph;
 use xn_kinds::{DrawFlaw, Drawing};
 use xn_map::{Map, MapErr};
-use xn_orders::{OrdersFlaw, all_edges, orders_flaw, planarise};
+use xn_orders::{OrdersFlaw, orders_flaw, planarise};
 
 /// What is seen of a drawing of the graph, or its first flaw.
 ///
@@ -24,7 +24,7 @@ pub fn examine(alloc: Global, graph: &Graph, drawing: &Drawing) -> Result<Seen, 
     ensures ok { IfOk result (IsSeen graph.now drawing.now.orders drawing.now.next) }
     ensures err { IfErr result (IsCause graph.now drawing.now.orders drawing.now.next) }
 {
-    let edges = all_edges(alloc, graph)?;
+    let edges = graph.all_edges(alloc)?;
     check_lists(alloc, graph, &edges, drawing)?;
     let map = map_of(alloc, graph, &edges, drawing)?;
     check_crossings(graph, drawing, &map)?;

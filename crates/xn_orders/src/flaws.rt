@@ -1,6 +1,5 @@
 // The test of the lists of edges: entries that stray, and dependent edges that cross.
-ghost use Rattle.std.specs.Prelude.{◌≡◌, ◌≤◌, length, IfOk, MatchOption};
-ghost use Rattle.xn_model.specs.Graph.{edges_of};
+ghost use Rattle.std.specs.Prelude.{◌≡◌, length, IfOk, MatchOption};
 ghost use Rattle.xn_model.specs.Orders.{IsEdgeList, IsOrders, order_at};
 ghost use Rattle.xn_orders.specs.Entries.{IsOrdersFlaw};
 
@@ -17,14 +16,6 @@ pub enum OrdersFlaw {
     Stray(u32, u32),
     /// No entry is stray, and in the list of the first edge, the second isn't independent of it.
     Dependent(u32, u32),
-}
-
-/// The numbers of the edges of a graph.
-pub fn all_edges(alloc: Global, graph: &Graph) -> Result<Vec<u32>, AllocError>
-    ensures edges { IfOk result (λ edges. edges.items ≡ edges_of graph.now) }
-    ensures list { IfOk result (λ edges. IsEdgeList (length graph.now.ends) edges.items) }
-{
-    (0..graph.edges()).collect(alloc)
 }
 
 /// The first flaw of the lists of a rising list of edges, where they aren't orders over these.

@@ -10,5 +10,5 @@ mod strays;
 #[cfg(test)]
 mod tests;
 
-pub use flaws::{OrdersFlaw, all_edges, orders_flaw};
+pub use flaws::{OrdersFlaw, orders_flaw};
 pub use planar::planarise;

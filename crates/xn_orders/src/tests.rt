@@ -37,7 +37,7 @@ fn lists(alloc: Global, edges: &[u32], pairs: &[(u32, u32)]) -> Result<Orders, A
 /// The first flaw of the lists of all edges of K5 with these entries, or their planarised graph.
 fn planarised(alloc: Global, pairs: &[(u32, u32)]) -> Result<Result<Web, OrdersFlaw>, Fail> {
     let k5 = Graph::make(5, Vec::from_slice(alloc, &K5)?)?;
-    let edges = all_edges(alloc, &k5)?;
+    let edges = k5.all_edges(alloc)?;
     let orders = lists(alloc, &edges, pairs)?;
     if orders.len() != edges.len() {
         return Err("lists of another number")?;

@@ -11,7 +11,7 @@ use Rattle.xn_model.specs.Lists.{has}
 use Rattle.xn_kinds.specs.State.{State, Crosses, IsState, decide, place}
 use Rattle.xn_tree.specs.Given.{Situation, state_of}
 use Rattle.xn_tree.specs.Steps.{shift, undecide, unplace, value_in}
-use Rattle.xn_tree.specs.Walk.{IsNext, IsPath, MayAll, MayChoose, later, owed, state_after}
+use Rattle.xn_tree.specs.Walk.{IsNextChoice, IsPath, MayAll, MayChoose, later, owed, state_after}
 use Rattle.xn_tree.specs.declared.walks.Choice.{Choice}
 use Rattle.xn_tree.specs.declared.walks.Choice.TheVariants.{Decided, Placed}
 use Rattle.xn_tree.proofs.Kept.{decided_state, empty_is_state, eqb-flip, placed_state}
@@ -98,11 +98,11 @@ decided_next g s e f rest top t is =
 
 -- after 0 comes 1, and after 1 none
 pub taken_back_pair : (g h : Graph) (s t : State) (e f : ℕ) (rest : List Choice) → IsPath g s (Decided e f true ∷ rest) → h ≡ g → t ≡ undecide s (min e f) (max e f) →
-    IsNext h t (Decided e f true) rest None
+    IsNextChoice h t (Decided e f true) rest None
 taken_back_pair g h s t e f rest top same is = (below_top g h s t _ rest top same (is ∙ undecided_is g s e f true rest top), refl)
 
 pub next_pair : (g h : Graph) (s t : State) (e f : ℕ) (rest : List Choice) → IsPath g s (Decided e f false ∷ rest) → h ≡ g →
-    t ≡ decide (undecide s (min e f) (max e f)) (min e f) (max e f) true → IsNext h t (Decided e f false) rest (Some (Decided e f true))
+    t ≡ decide (undecide s (min e f) (max e f)) (min e f) (max e f) true → IsNextChoice h t (Decided e f false) rest (Some (Decided e f true))
 next_pair g h s t e f rest top same is =
     let back = ap (λ (u : State). decide u (min e f) (max e f) true) (undecided_is g s e f false rest top) in
     (subst (λ k. IsPath k t (Decided e f true ∷ rest)) (sym same) (decided_next g s e f rest top t (is ∙ back)), refl)
@@ -186,14 +186,14 @@ module _ (g : Graph) (s : State) (e f i : ℕ) (rest : List Choice) (top : IsPat
 
 -- after each position comes the next, and after the last none
 pub taken_back_place : (g h : Graph) (s t : State) (e f i : ℕ) (rest : List Choice) → IsPath g s (Placed e f i ∷ rest) → h ≡ g → i + 1 ≡ length (s.placed e) → t ≡ unplace s e i →
-    IsNext h t (Placed e f i) rest None
+    IsNextChoice h t (Placed e f i) rest None
 taken_back_place g h s t e f i rest top same last is = (
   below_top g h s t _ rest top same (is ∙ unplaced_is g s e f i rest top),
   owed_none g s e f i rest top (λ more. omega (arith, more, last)),
 )
 
 pub next_place : (g h : Graph) (s t : State) (e f i : ℕ) (rest : List Choice) → IsPath g s (Placed e f i ∷ rest) → h ≡ g → i + 1 < length (s.placed e) → t ≡ shift s e i →
-    IsNext h t (Placed e f i) rest (Some (Placed e f (i + 1)))
+    IsNextChoice h t (Placed e f i) rest (Some (Placed e f (i + 1)))
 next_place g h s t e f i rest top same more is = (
   subst (λ k. IsPath k t (Placed e f (i + 1) ∷ rest)) (sym same) (placed_next g s e f i rest top more t is),
   owed_next g s e f i rest top more,

@@ -55,14 +55,14 @@ abbrev pub pending_at : Bool → List Choice → List State
 pending_at live path = if live then state_after path ∷ owed path else []
 
 -- the last choice before rest was taken back, and the next at its node was made, if there is one
-abbrev pub IsNext : Graph → State → Choice → List Choice → Option Choice → Type 0
-IsNext g s last rest None = IsPath g s rest × (owed (last ∷ rest) ≡ owed rest)
-IsNext g s last rest (Some next) = IsPath g s (next ∷ rest) × (owed (last ∷ rest) ≡ pending_at true (next ∷ rest))
+abbrev pub IsNextChoice : Graph → State → Choice → List Choice → Option Choice → Type 0
+IsNextChoice g s last rest None = IsPath g s rest × (owed (last ∷ rest) ≡ owed rest)
+IsNextChoice g s last rest (Some next) = IsPath g s (next ∷ rest) × (owed (last ∷ rest) ≡ pending_at true (next ∷ rest))
 
 -- the same of two given states, whatever path led to the last choice
 abbrev pub GoesOn : Situation → Situation → Choice → Option Choice → Type 0
 GoesOn old new last next =
-    (rest : List Choice) → IsPath old.graph (state_of old) (last ∷ rest) → IsNext new.graph (state_of new) last rest next
+    (rest : List Choice) → IsPath old.graph (state_of old) (last ∷ rest) → IsNextChoice new.graph (state_of new) last rest next
 
 -- ---- walks
 
