@@ -5,13 +5,12 @@ use Rattle.std.proofs.lemmas.Bool.{cases_Bool, cases_eq, and_parts}
 use Rattle.std.proofs.lemmas.Int.{ints}
 use Rattle.xn_model.specs.Graph.{Graph}
 use Rattle.xn_model.specs.Lists.{has, one_if, stands_before}
-use Rattle.xn_kinds.specs.Bound.{IsBound, leaf_value}
+use Rattle.xn_kinds.specs.Bound.{IsBound, leaf_value, IsLeastOver}
 use Rattle.xn_kinds.specs.Row.{Values}
 use Rattle.xn_kinds.specs.State.{InBox, State}
 use Rattle.xn_kinds.specs.declared.rows.Row.{Row}
 use Rattle.xn_kinds.specs.declared.trees.Var.{Var}
 use Rattle.xn_kinds.specs.declared.trees.Var.TheVariants.{Cross, Before}
-use Rattle.xn_brute.specs.Bound.{IsLeast}
 use Rattle.xn_brute.specs.Known.{FitsKnown, given_by, is_same, known_in, order_in, value_at}
 use Rattle.xn_brute.proofs.Unknown.{IsStep, same_of_test}
 
@@ -50,7 +49,7 @@ values_fit known = record { fits = go }
     go (Before e f g) = or_zero-fits (known (Before e f g))
 
 -- a number that is the same for all values is their least
-pub least_of_all : (known : Var → Option Bool) (f : Values → ℤ) (b : ℤ) → ((v : Values) → FitsKnown known v → f v ≡ b) → IsLeast known f b
+pub least_of_all : (known : Var → Option Bool) (f : Values → ℤ) (b : ℤ) → ((v : Values) → FitsKnown known v → f v ≡ b) → IsLeastOver (FitsKnown known) f b
 least_of_all known f b same = record {
   below_all = λ v fits. omega (arith, ints, same v fits);
   met = (values_by known, values_fit known, same (values_by known) (values_fit known));
@@ -86,7 +85,7 @@ module _ (old if_zero if_one : Var → Option Bool) (x : Var) (zero_step : IsSte
         | inr is_one ↦ inr (fits_new old if_one x true one_step v fits is_one)
       ]
 
-  pub least_at_zero : (a b : ℤ) → IsLeast if_zero f a → IsLeast if_one f b → a ≤ℤ b → IsLeast old f a
+  pub least_at_zero : (a b : ℤ) → IsLeastOver (FitsKnown if_zero) f a → IsLeastOver (FitsKnown if_one) f b → a ≤ℤ b → IsLeastOver (FitsKnown old) f a
   least_at_zero a b at_zero at_one less = record {
     below_all = λ v fits. elim (either v fits) [
       | inl fits_zero ↦ at_zero.below_all v fits_zero
@@ -95,7 +94,7 @@ module _ (old if_zero if_one : Var → Option Bool) (x : Var) (zero_step : IsSte
     met = (at_zero.met.0, fits_old old if_zero x false zero_step at_zero.met.0 open_var at_zero.met.1, at_zero.met.2);
   }
 
-  pub least_at_one : (a b : ℤ) → IsLeast if_zero f a → IsLeast if_one f b → b ≤ℤ a → IsLeast old f b
+  pub least_at_one : (a b : ℤ) → IsLeastOver (FitsKnown if_zero) f a → IsLeastOver (FitsKnown if_one) f b → b ≤ℤ a → IsLeastOver (FitsKnown old) f b
   least_at_one a b at_zero at_one less = record {
     below_all = λ v fits. elim (either v fits) [
       | inl fits_zero ↦ omega (arith, ints, less, at_zero.below_all v fits_zero)
@@ -149,7 +148,7 @@ module _ (s : State) (v : Values) where
 
 -- the least over all that is as given is the bound
 pub bound_of_least : (g : Graph) (rows : List Row) (s : State) (d : ℕ) (parts : List (ℕ × ℕ)) (b : ℤ) →
-    IsLeast (known_in s []) (leaf_value g rows d parts) b → IsBound g rows s d parts b
+    IsLeastOver (FitsKnown (known_in s [])) (leaf_value g rows d parts) b → IsBound g rows s d parts b
 bound_of_least g rows s d parts b least = record {
   below_all = λ v box. least.below_all v (fits_of_box s v box);
   met = (least.met.0, box_of_fits s least.met.0 least.met.1, least.met.2);

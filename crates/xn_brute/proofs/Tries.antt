@@ -2,11 +2,11 @@
 use Rattle.std.proofs.Common.{◌≡◌, ℕ, suc, ◌+◌, ◌-◌, ◌*◌, ◌<◌, ◌≤◌, ◌⊎◌, inl, inr, true, false, not, eqb, List, [], ◌∷◌, ◌++◌, length, get_or, refl, sym, ap, ◌∙◌, subst, arith, length-append, append_assoc}
 use Rattle.std.proofs.lemmas.Bool.{and_from, both_ways, cases_Bool, eq-eqb, eqb-true, or_cases}
 use Rattle.std.proofs.lemmas.List.{append-nil, get_or-append-add, get_or_append_left, nil_from_length}
-use Rattle.xn_model.specs.Drawing.{IsListedDrawing, order_of}
+use Rattle.xn_model.specs.Drawing.{IsListedDrawing, drawn_web, order_of}
 use Rattle.xn_model.specs.Graph.{Graph}
 use Rattle.xn_model.specs.Lists.{at, has, total}
 use Rattle.xn_model.specs.Map.{tail_of}
-use Rattle.xn_brute.specs.Found.{AreDrawn, CanCross, CanList, CanTurn, drawn_web, may_lead}
+use Rattle.xn_brute.specs.Found.{AreDrawn, CanCross, CanList, CanTurn, may_lead}
 use Rattle.xn_brute.proofs.Drawn.{has-here, has-later, low_edge}
 use Rattle.xn_brute.proofs.OrdersAt.{order_of-at}
 

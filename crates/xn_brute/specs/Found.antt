@@ -1,11 +1,10 @@
 -- What the search for drawings looks for, and finds.
 use Rattle.std.specs.Prelude.{◌≡◌, ℕ, ◌+◌, ◌≤◌, ◌<◌, ◌==◌, ◌&&◌, Bool, true, false, not, Option, Some, None, List, ◌∷◌, ◌++◌, length}
-use Rattle.xn_model.specs.Drawing.{IsAtMost, IsCrossingNumber, IsListedDrawing, IsAtLeast, order_of}
+use Rattle.xn_model.specs.Drawing.{IsAtMost, IsCrossingNumber, IsListedDrawing, IsAtLeast, drawn_web, order_of}
 use Rattle.xn_model.specs.Graph.{Graph, edges_of}
 use Rattle.xn_model.specs.Lists.{has, total}
 use Rattle.xn_model.specs.Map.{tail_of}
 use Rattle.xn_model.specs.Orders.{crossing_count}
-use Rattle.xn_model.specs.Web.{web_of}
 use Rattle.xn_brute.specs.Drawings.{AreShort}
 use Rattle.xn_brute.specs.declared.rotations.Trial.{Trial}
 use Rattle.xn_brute.specs.declared.searches.Search.{Search}
@@ -27,10 +26,6 @@ pub record AreDrawn (g : Graph) (k : ℕ) (lists : List (List ℕ)) : Type 0 whe
   pub few : crossing_count g (order_of g lists) ≤ k
 
 -- ---- rotations
-
--- the planarised graph of the orders
-abbrev pub drawn_web : Graph → List (List ℕ) → Graph
-drawn_web g lists = web_of g (edges_of g) (order_of g lists)
 
 -- the edges are those of the graph, and the ends are those of its planarised graph
 pub record IsTrial (trial : Trial) : Type 0 where

@@ -1,6 +1,7 @@
 ghost use Rattle.std.specs.Prelude.{◌≡◌, ◌≤◌, ◌∷◌, IfOk, length};
-ghost use Rattle.xn_brute.specs.Bound.{IsBoundIn, IsLeast};
-ghost use Rattle.xn_brute.specs.Known.{known_in, state_of};
+ghost use Rattle.xn_kinds.specs.Bound.{IsLeastOver};
+ghost use Rattle.xn_brute.specs.Bound.{IsBoundIn};
+ghost use Rattle.xn_brute.specs.Known.{known_in, state_of, FitsKnown};
 ghost use Rattle.xn_brute.specs.Leaf.{IsSmall, pairs_in, value_in};
 
 use crate::known::{Given, Known};
@@ -32,7 +33,7 @@ fn least(
     requires small { IsSmall leaf.now }
     requires pairs { pairs.now ≡ pairs_in leaf.now }
     requires few { length pairs.now ≤ 2000000 }
-    ensures { IfOk result (IsLeast (known_in (state_of given.now) tried.now) (value_in leaf.now)) }
+    ensures { IfOk result (IsLeastOver (FitsKnown (known_in (state_of given.now) tried.now)) (value_in leaf.now)) }
 {
     match leaf_value(&Known { given, tried }, leaf, pairs) {
         Ok(value) => Ok(value),

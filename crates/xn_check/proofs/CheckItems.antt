@@ -2,7 +2,7 @@
 use Rattle.std.proofs.Common.{◌≡◌, ℕ, List, [], ◌∷◌, ◌++◌, map, refl, sym, subst, ap, ◌∙◌}
 use Rattle.xn_model.specs.Graph.{Graph}
 use Rattle.xn_kinds.specs.State.{State}
-use Rattle.xn_kinds.specs.Tree.{AreTrees, Keeps, children}
+use Rattle.xn_kinds.specs.Tree.{AreTrees, MayOpen, children}
 use Rattle.xn_kinds.specs.declared.rows.Row.{Row}
 use Rattle.xn_kinds.specs.declared.trees.Node.{Node}
 use Rattle.xn_proof.specs.declared.item.Item.{Item}
@@ -101,33 +101,33 @@ module _ (g : Graph) (loops : ℕ) where
 
   -- ---- the tree
 
-  finish_none : (k : ℕ) (rows : List Row) (pending : List State) → pending ≡ [] → AreTrees (Keeps g k rows) children pending []
-  finish_none k rows pending none = subst (λ (p : List State). AreTrees (Keeps g k rows) children p []) (sym none) tt
+  finish_none : (k : ℕ) (rows : List Row) (pending : List State) → pending ≡ [] → AreTrees (MayOpen g k rows) children pending []
+  finish_none k rows pending none = subst (λ (p : List State). AreTrees (MayOpen g k rows) children p []) (sym none) tt
 
-  none_pending : (k : ℕ) (rows : List Row) (pending : List State) → AreTrees (Keeps g k rows) children pending [] → pending ≡ []
+  none_pending : (k : ℕ) (rows : List Row) (pending : List State) → AreTrees (MayOpen g k rows) children pending [] → pending ≡ []
   none_pending k rows [] ends = refl
   none_pending k rows (t ∷ pending) ends = absurd ends
 
   finish_more : (k : ℕ) (rows : List Row) (pending : List State) (node : Node) (tree : List Node) → KeepsFirst g k rows pending node →
-      AreTrees (Keeps g k rows) children (after pending node) tree → AreTrees (Keeps g k rows) children pending (node ∷ tree)
+      AreTrees (MayOpen g k rows) children (after pending node) tree → AreTrees (MayOpen g k rows) children pending (node ∷ tree)
   finish_more k rows [] node tree keeps ends = absurd keeps
   finish_more k rows (t ∷ pending) node tree keeps ends = (keeps, ends)
 
   finish_apart : (k : ℕ) (rows : List Row) (pending : List State) (node : Node) (tree : List Node) →
-      AreTrees (Keeps g k rows) children pending (node ∷ tree) →
-      KeepsFirst g k rows pending node × AreTrees (Keeps g k rows) children (after pending node) tree
+      AreTrees (MayOpen g k rows) children pending (node ∷ tree) →
+      KeepsFirst g k rows pending node × AreTrees (MayOpen g k rows) children (after pending node) tree
   finish_apart k rows [] node tree ends = absurd ends
   finish_apart k rows (t ∷ pending) node tree ends = (ends.0, ends.1)
 
   pub tree_shows : (tree : List Node) (s : Said) → AllAgree R s (map (λ n. item.Step n) tree ++ item.End ∷ []) →
-      AreTrees (Keeps g s.front.lower s.rows.whole) children s.tree.pending tree
+      AreTrees (MayOpen g s.front.lower s.rows.whole) children s.tree.pending tree
   tree_shows [] s all = finish_none s.front.lower s.rows.whole s.tree.pending all.0
   tree_shows (node ∷ tree) s all =
       let steps = map (λ n. item.Step n) tree ++ item.End ∷ [] in
       finish_more s.front.lower s.rows.whole s.tree.pending node tree (agree_head R s (item.Step node) steps all)
       (tree_shows tree (said s (item.Step node)) (agree_tail R s (item.Step node) steps all))
 
-  pub tree_kept : (tree : List Node) (s : Said) → AreTrees (Keeps g s.front.lower s.rows.whole) children s.tree.pending tree →
+  pub tree_kept : (tree : List Node) (s : Said) → AreTrees (MayOpen g s.front.lower s.rows.whole) children s.tree.pending tree →
       AllAgree R s (map (λ n. item.Step n) tree ++ item.End ∷ [])
   tree_kept [] s ends = (none_pending s.front.lower s.rows.whole s.tree.pending ends, tt)
   tree_kept (node ∷ tree) s ends =

@@ -8,7 +8,7 @@ use Rattle.xn_model.specs.Graph.{Graph}
 use Rattle.xn_model.specs.Orders.{crossing_count}
 use Rattle.xn_kinds.specs.Row.{RowHolds}
 use Rattle.xn_kinds.specs.State.{State, empty_state}
-use Rattle.xn_kinds.specs.Tree.{AreTrees, Keeps, Proves, children}
+use Rattle.xn_kinds.specs.Tree.{AreTrees, MayOpen, Proves, children}
 use Rattle.xn_kinds.specs.declared.rows.Row.{Row}
 use Rattle.xn_kinds.specs.declared.trees.Node.{Node}
 use Rattle.xn_proof.specs.Forms.{alongs_from, edges_from, node_item, overs_from, paths_from, rows_from, start_item, start_paths, turns_from, words_at}
@@ -40,7 +40,7 @@ pub record Drawn (g : Graph) (lists : List (List ℕ)) (next : List ℕ) (upper 
 -- nodes that end a proof of the pending states end a tree
 abbrev pub LeadsTo : Graph → ℕ → List Row → List State → List Node → Type 0
 LeadsTo g k rows pending tree =
-    (more : List Node) → AreTrees (Keeps g k rows) children pending more → Proves g k rows empty_state (tree ++ more)
+    (more : List Node) → AreTrees (MayOpen g k rows) children pending more → Proves g k rows empty_state (tree ++ more)
 
 pub record Growing (g : Graph) (k : ℕ) (rows : List Row) (pending : List State) : Type 0 where
   pub rows_hold : All (RowHolds g) rows
@@ -135,7 +135,7 @@ module _ (g : Graph) (loops : ℕ) (s : Said) where
     record {
       rows_hold = known.0.rows_hold;
       tree = known.0.tree ++ [];
-      proves = known.0.leads [] (subst (λ (p : List State). AreTrees (Keeps g s.front.lower s.rows.whole) children p []) (sym agrees) tt);
+      proves = known.0.leads [] (subst (λ (p : List State). AreTrees (MayOpen g s.front.lower s.rows.whole) children p []) (sym agrees) tt);
     },
     known.1,
   )
@@ -170,7 +170,7 @@ module _ (g : Graph) (loops : ℕ) (s : Said) where
         record {
           rows_hold = known.0.rows_hold;
           tree = [];
-          leads = λ more ends. subst (λ (p : List State). AreTrees (Keeps g s.front.lower s.rows.whole) children p more) known.0.start ends;
+          leads = λ more ends. subst (λ (p : List State). AreTrees (MayOpen g s.front.lower s.rows.whole) children p more) known.0.start ends;
         },
         known.1,
       ))

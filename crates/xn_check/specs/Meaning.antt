@@ -7,7 +7,7 @@ use Rattle.xn_model.specs.Orders.{crossing_count}
 use Rattle.xn_kinds.specs.Bound.{IsBound}
 use Rattle.xn_kinds.specs.Row.{RowHolds}
 use Rattle.xn_kinds.specs.State.{State}
-use Rattle.xn_kinds.specs.Tree.{Keeps}
+use Rattle.xn_kinds.specs.Tree.{MayOpen, Fits}
 use Rattle.xn_kinds.specs.declared.flaws.DrawFlaw.{DrawFlaw}
 use Rattle.xn_kinds.specs.declared.flaws.FlawKind.{FlawKind}
 use Rattle.xn_kinds.specs.declared.flaws.FlawKind.TheVariants as kinds
@@ -19,7 +19,6 @@ use Rattle.xn_draw.specs.Flaws.{IsFlaw}
 use Rattle.xn_proof.specs.declared.item.Item.{Item}
 use Rattle.xn_proof.specs.declared.item.Item.TheVariants as item
 use Rattle.xn_rows.specs.Holding.{IsRowFlaw}
-use Rattle.xn_tree.specs.Walk.{Fits}
 use Rattle.xn_check.specs.FrontSaid.{FrontSaid}
 use Rattle.xn_check.specs.RowsSaid.{row_by_list, row_by_path}
 use Rattle.xn_check.specs.Said.{Said}
@@ -47,7 +46,7 @@ FrontAgrees g loops f line = Unit {0}
 -- the node keeps its rule in the first pending state, of which there is one
 abbrev pub KeepsFirst : Graph → ℕ → List Row → List State → Node → Type 0
 KeepsFirst g k rows [] node = ⊥
-KeepsFirst g k rows (t ∷ pending) node = Keeps g k rows t node
+KeepsFirst g k rows (t ∷ pending) node = MayOpen g k rows t node
 
 -- the line means what it must
 abbrev pub Agrees : Graph → ℕ → Said → Item → Type 0

@@ -1,98 +1,29 @@
 -- Lists and turns are a drawing, or have a flaw: each test of a drawing has an end.
-use Rattle.std.proofs.Common.{◌≡◌, ℕ, zero, suc, ◌+◌, ◌*◌, ◌<◌, ◌⊎◌, inl, inr, true, List, [], length, refl, ◌∙◌, ap, subst, arith}
+use Rattle.std.proofs.Common.{◌≡◌, ℕ, ◌+◌, ◌*◌, ◌<◌, ◌⊎◌, inl, inr, true, List, length, refl, subst, arith}
 use Rattle.std.proofs.lemmas.Bool.{both_ways, cases_Bool, cases_eq, cases_lt}
-use Rattle.std.proofs.lemmas.List.{get_or_past}
-use Rattle.xn_model.specs.Drawing.{CrossesAt, IsListedDrawing, order_of}
-use Rattle.xn_model.specs.Graph.{Graph, EndsIn, IsGraph, edges_of, independent}
+use Rattle.xn_model.specs.Drawing.{CrossesAt, IsListedDrawing, drawn_web, order_of}
+use Rattle.xn_model.specs.First.{IsFirst}
+use Rattle.xn_model.specs.Graph.{Graph, EndsIn, IsGraph, edges_of}
 use Rattle.xn_model.specs.Lists.{at, has, position_in, total}
 use Rattle.xn_model.specs.Map.{IsMap, tail_of}
 use Rattle.xn_model.specs.Permutation.{Reaches}
 use Rattle.xn_model.specs.Web.{first_segment}
+use Rattle.xn_model.proofs.Ranges.{edge_list}
 use Rattle.xn_graph.specs.Counts.{euler_of}
 use Rattle.xn_kinds.specs.declared.flaws.DrawFlaw.{DrawFlaw}
 use Rattle.xn_kinds.specs.declared.flaws.DrawFlaw.TheVariants.{Length, Order, Dependent, Rotation, Touch, Genus}
 use Rattle.xn_ring.proofs.Orbits.{cases_reaches}
-use Rattle.xn_map.specs.Rotation.{IsAstray, IsFirst, IsRotationFlaw, LeadsRight, LeadsWrong}
+use Rattle.xn_map.specs.Rotation.{IsAstray, IsRotationFlaw, LeadsRight, LeadsWrong}
 use Rattle.xn_map.proofs.Rotations.{IsMap-from_right, Permutes-from_right, least_dart}
-use Rattle.xn_draw.specs.Entries.{IsDependent, IsDisorderly, NamesFirst, NoEntry, NoEntryOf}
-use Rattle.xn_draw.specs.Flaws.{HasCrossings, HasLengths, HasMap, HasOrder, HasOrders, IsFirstTouch, IsFlaw, IsTouch, drawn_web}
-use Rattle.xn_draw.proofs.Excluded.{first_same}
+use Rattle.xn_orders.specs.Entries.{IsOrdersFlaw}
+use Rattle.xn_orders.specs.declared.flaws.OrdersFlaw.{OrdersFlaw}
+use Rattle.xn_orders.specs.declared.flaws.OrdersFlaw.TheVariants.{Dependent as DependentEntry, Stray}
+use Rattle.xn_orders.proofs.Entered.{edge_below, listed}
+use Rattle.xn_orders.proofs.First.{Decided, first_same, first_so}
+use Rattle.xn_orders.proofs.Flawed.{orders_or_flaw}
+use Rattle.xn_orders.proofs.Limits.{web_ends}
+use Rattle.xn_draw.specs.Flaws.{HasCrossings, HasLengths, HasMap, HasOrders, IsFirstTouch, IsFlaw, IsTouch}
 use Rattle.xn_draw.proofs.FirstFlaws.{drawn}
-use Rattle.xn_draw.proofs.Limits.{web_ends}
-use Rattle.xn_draw.proofs.OrdersFound.{edge_of_entry, orders_from_entries}
-use Rattle.xn_draw.proofs.Totals.{order_of-at}
-
--- it is so, or it isn't
-abbrev pub Decided : Type 0 → Type 0
-Decided P = P ⊎ (P → ⊥)
-
--- the first number below n of which P is true, if there is one
-pub first_so : (P : ℕ → Type 0) (n : ℕ) → ((i : ℕ) → i < n → Decided (P i)) → ((i : ℕ) × (i < n) × IsFirst P i) ⊎ ((i : ℕ) → i < n → ¬ (P i))
-first_so P zero decide = inr (λ i low. absurd (omega (arith, low)))
-first_so P (suc n) decide = elim (first_so P n (λ i low. decide i (omega (arith, low)))) [
-  | inl found ↦ inl (found.0, omega (arith, found.1), found.2)
-  | inr none ↦ elim (decide n (omega arith)) [
-    | inl here ↦ inl (n, omega arith, record { here = here; before = none })
-    | inr away ↦ inr (none_yet none away)
-  ]
-]
-  where
-    none_yet : ((i : ℕ) → i < n → ¬ (P i)) → (P n → ⊥) → (i : ℕ) → i < suc n → ¬ (P i)
-    none_yet none away i low here = elim (cases_eq i n) [
-      | inl same ↦ away (subst P same here)
-      | inr other ↦ none i (omega (arith, low, other)) here
-    ]
-
--- ---- the first wrong entry
-
-module _ (ord : ℕ → List ℕ) (Wrong : ℕ → ℕ → Type 0) (decide : (e i : ℕ) → Decided (Wrong e i)) where
-  -- the list of e has a first wrong entry
-  abbrev HasWrong : ℕ → Type 0
-  HasWrong e = (i : ℕ) × (i < length (ord e)) × IsFirst (Wrong e) i
-
-  entry_cases : (e : ℕ) → HasWrong e ⊎ NoEntryOf ord Wrong e
-  entry_cases e = first_so (Wrong e) (length (ord e)) (λ i low. decide e i)
-
-  none_of : (e : ℕ) → ¬ (HasWrong e) → NoEntryOf ord Wrong e
-  none_of e away = elim (entry_cases e) [ inl found ↦ absurd (away found) | inr none ↦ none ]
-
-  decide_wrong : (e : ℕ) → Decided (HasWrong e)
-  decide_wrong e = elim (entry_cases e) [ inl found ↦ inl found | inr none ↦ inr (λ found. none found.0 found.1 found.2.here) ]
-
-  pub first_entry : (n : ℕ) → ((e : ℕ) × (f : ℕ) × NamesFirst ord Wrong e f) ⊎ ((e : ℕ) → e < n → NoEntryOf ord Wrong e)
-  first_entry n = elim (first_so HasWrong n (λ e low. decide_wrong e)) [
-    | inl found ↦
-        let e = found.0 in
-        let here = found.2.here in
-        inl (e, at (ord e) here.0, ((here.0, here.1, here.2, refl), λ d below. none_of d (found.2.before d below)))
-    | inr none ↦ inr (λ e low. none_of e (none e low))
-  ]
-
-decide_disorderly : (count : ℕ) (ord : ℕ → List ℕ) (e i : ℕ) → Decided (IsDisorderly count ord e i)
-decide_disorderly count ord e i =
-    let f = at (ord e) i in
-    elim (cases_lt f count) [
-      | inr high ↦ inl (inl high)
-      | inl low ↦ elim (first_so (λ j. at (ord e) j ≡ f) i (λ j below. cases_eq (at (ord e) j) f)) [
-        | inl twice ↦ inl (inr (inl (twice.0, twice.1, twice.2.here)))
-        | inr once ↦ elim (cases_Bool (has (ord f) e)) [
-          | inr missing ↦ inl (inr (inr missing))
-          | inl back ↦ inr (orderly low once back)
-        ]
-      ]
-    ]
-  where
-    orderly : at (ord e) i < count → ((j : ℕ) → j < i → ¬ (at (ord e) j ≡ at (ord e) i)) → has (ord (at (ord e) i)) e ≡ true → IsDisorderly count ord e i → ⊥
-    orderly low once back wrong = elim wrong [
-      | inl high ↦ omega (arith, low, high)
-      | inr other ↦ elim other [ inl twice ↦ once twice.0 twice.1 twice.2 | inr missing ↦ both_ways _ missing back ]
-    ]
-
-decide_dependent : (ends : List (ℕ × ℕ)) (ord : ℕ → List ℕ) (e i : ℕ) → Decided (IsDependent ends ord e i)
-decide_dependent ends ord e i = elim (cases_Bool (independent ends e (at (ord e) i))) [
-  | inl apart ↦ inr (λ dependent_. dependent_ apart)
-  | inr near ↦ inl (λ apart. both_ways _ near apart)
-]
 
 -- ---- the rotation
 
@@ -136,6 +67,10 @@ rotation_cases nodes ends next ends_in = elim (first_so (LeadsWrong ends next) (
 
 -- ---- touches
 
+-- an edge with an entry is one of the graph
+edge_of_entry : (g : Graph) (lists : List (List ℕ)) (e f : ℕ) → has (order_of g lists e) f ≡ true → e < length g.ends
+edge_of_entry g lists e f h = edge_below (length g.ends) (edges_of g) (edge_list (length g.ends)) e (listed (edges_of g) lists e f h)
+
 module _ (g : Graph) (lists : List (List ℕ)) (next : List ℕ) (has_map : HasMap g lists next) where
   decide_touch : (e f : ℕ) → Decided (IsTouch g lists next e f)
   decide_touch e f =
@@ -161,8 +96,7 @@ module _ (g : Graph) (lists : List (List ℕ)) (next : List ℕ) (has_map : HasM
   -- what e meets is an edge, and so is e
   met_in : (e f : ℕ) → has (order_of g lists e) f ≡ true → (e < length g.ends) × (f < length g.ends)
   met_in e f meets =
-      let fits = has_map.has_orders.lengths.lists_fit in
-      (edge_of_entry g lists fits e f meets, edge_of_entry g lists fits f e (has_map.has_orders.orders.both_ways e f meets))
+      (edge_of_entry g lists e f meets, edge_of_entry g lists f e (has_map.has_orders.orders.both_ways e f meets))
 
   touches_none : (e : ℕ) → ¬ (TouchesSome e) → (f : ℕ) → ¬ (IsTouch g lists next e f)
   touches_none e away f touch = elim (touch_cases e) [ inl found ↦ away found | inr none ↦ none f (met_in e f touch.1).1 touch ]
@@ -222,30 +156,15 @@ module _ (g : Graph) (lists : List (List ℕ)) (next : List ℕ) (is_graph : IsG
         | inr flaw ↦ inr (Rotation flaw.0, (found, flaw.1))
       ]
 
-  -- past the edges there are no entries
-  none_past : (Wrong : ℕ → ℕ → Type 0) → length lists ≡ length g.ends → ((e : ℕ) → e < length g.ends → NoEntryOf (order_of g lists) Wrong e) → NoEntry (order_of g lists) Wrong
-  none_past Wrong fits none e i low wrong = elim (cases_lt e (length g.ends)) [
-    | inl in_range ↦ none e in_range i low wrong
-    | inr past ↦
-        let empty = ap length (order_of-at g lists fits e ∙ get_or_past lists e [] (omega (arith, past, fits))) in
-        omega (arith, low, empty)
-  ]
-
-  from_order : HasOrder g lists next → Ends
-  from_order found =
-      let ord = order_of g lists in
-      elim (first_entry ord (IsDependent g.ends ord) (decide_dependent g.ends ord) (length g.ends)) [
-        | inl named ↦ inr (Dependent named.0 named.1, (found, named.2))
-        | inr none ↦ from_orders (orders_from_entries g lists next found (none_past (IsDependent g.ends ord) found.lengths.lists_fit none))
-      ]
+  from_lists : HasLengths g lists next → (x : OrdersFlaw) → IsOrdersFlaw g.ends (edges_of g) (order_of g lists) x → Ends
+  from_lists found (Stray e f) flaw = inr (Order e f, (found, flaw))
+  from_lists found (DependentEntry e f) flaw = inr (Dependent e f, (record { lengths = found; order = flaw.0 }, flaw.1))
 
   from_lengths : HasLengths g lists next → Ends
-  from_lengths found =
-      let ord = order_of g lists in
-      elim (first_entry ord (IsDisorderly (length g.ends) ord) (decide_disorderly (length g.ends) ord) (length g.ends)) [
-        | inl named ↦ inr (Order named.0 named.1, (found, named.2))
-        | inr none ↦ from_order (record { lengths = found; order = none_past (IsDisorderly (length g.ends) ord) found.lists_fit none })
-      ]
+  from_lengths found = elim (orders_or_flaw g.ends (edges_of g) lists (edge_list (length g.ends))) [
+    | inl orders ↦ from_orders (record { lengths = found; orders = orders })
+    | inr flaw ↦ from_lists found flaw.0 flaw.1
+  ]
 
   pub drawn_or_flawed : Ends
   drawn_or_flawed = elim (cases_eq (length lists) (length g.ends)) [

@@ -1,44 +1,21 @@
--- What is first wrong by the places in the lists is the first flaw.
+-- Edges that first touch by the places in the lists are the first that touch.
 use Rattle.std.proofs.Common.{◌≡◌, ℕ, zero, suc, ◌+◌, ◌*◌, ◌<◌, ◌≤◌, inl, inr, false, true, eqb, List, [], ◌∷◌, length, refl, sym, ◌∙◌, ap, subst, arith, ◌⊎◌}
 use Rattle.std.proofs.lemmas.Bool.{cases_eq, eq-eqb}
 use Rattle.std.proofs.lemmas.Map.Keys.{IsDistinct-tail, apart_from_distinct}
-use Rattle.xn_model.specs.Drawing.{CrossesAt, IsListedDrawing, order_of}
+use Rattle.xn_model.specs.Drawing.{CrossesAt, IsListedDrawing, drawn_web, order_of}
 use Rattle.xn_model.specs.Map.{MeetsEuler}
 use Rattle.xn_model.specs.Graph.{Graph, edges_of}
 use Rattle.xn_model.specs.Lists.{at, has, position_in}
 use Rattle.xn_model.specs.Web.{first_segment}
 use Rattle.std.specs.List.{IsDistinct, range_with_len}
 use Rattle.std.specs.Prelude.{nat_eq}
-use Rattle.xn_kinds.specs.declared.flaws.DrawFlaw.TheVariants.{Dependent, Order}
-use Rattle.xn_draw.specs.Entries.{IsDependent, IsDisorderly, NamesFirst, NoEntry, list_of}
-use Rattle.xn_draw.specs.Flaws.{HasCrossings, HasLengths, HasMap, HasOrder, IsFlaw, IsFirstTouch, IsTouch, drawn_web}
-use Rattle.xn_draw.specs.Touches.{RunsOn, NoTouch, TouchesAt, TouchesFirst, first_of}
-use Rattle.xn_draw.proofs.Numbered.{has-get_or}
-use Rattle.xn_draw.proofs.OrdersFound.{place_of}
-use Rattle.xn_draw.proofs.Totals.{order_of-at, order_of-same, segment_count}
-
-module _ (g : Graph) (lists : List (List ℕ)) (next : List ℕ) where
-  pub order_flaw : (e f : ℕ) → HasLengths g lists next → NamesFirst (list_of lists) (IsDisorderly (length g.ends) (list_of lists)) e f → IsFlaw g lists next (Order e f)
-  order_flaw e f lengths named =
-      let named_in : (ℕ → List ℕ) → Type 0 = λ ord. NamesFirst ord (IsDisorderly (length g.ends) ord) e f in
-      (lengths, subst named_in (sym (order_of-same g lists lengths.lists_fit)) named)
-
-  pub in_order : HasLengths g lists next → NoEntry (list_of lists) (IsDisorderly (length g.ends) (list_of lists)) → HasOrder g lists next
-  in_order lengths none =
-      let none_in : (ℕ → List ℕ) → Type 0 = λ ord. NoEntry ord (IsDisorderly (length g.ends) ord) in
-      record { lengths = lengths; order = subst none_in (sym (order_of-same g lists lengths.lists_fit)) none }
-
-  pub dependent_flaw : (e f : ℕ) → HasOrder g lists next → NamesFirst (list_of lists) (IsDependent g.ends (list_of lists)) e f → IsFlaw g lists next (Dependent e f)
-  dependent_flaw e f ordered named =
-      let named_in : (ℕ → List ℕ) → Type 0 = λ ord. NamesFirst ord (IsDependent g.ends ord) e f in
-      (ordered, subst named_in (sym (order_of-same g lists ordered.lengths.lists_fit)) named)
-
-  pub none_dependent : HasLengths g lists next → NoEntry (list_of lists) (IsDependent g.ends (list_of lists)) → NoEntry (order_of g lists) (IsDependent g.ends (order_of g lists))
-  none_dependent lengths none =
-      let none_in : (ℕ → List ℕ) → Type 0 = λ ord. NoEntry ord (IsDependent g.ends ord) in
-      subst none_in (sym (order_of-same g lists lengths.lists_fit)) none
-
--- ---- touches
+use Rattle.xn_orders.specs.Entries.{list_of}
+use Rattle.xn_orders.proofs.AllEdges.{order_of-at, order_of-same}
+use Rattle.xn_orders.proofs.Entered.{place_of}
+use Rattle.xn_orders.proofs.Numbered.{has-get_or}
+use Rattle.xn_draw.specs.Flaws.{HasCrossings, HasMap, IsFirstTouch, IsTouch}
+use Rattle.xn_draw.specs.Touches.{NoTouch, RunsOn, TouchesAt, TouchesFirst, first_of}
+use Rattle.xn_draw.proofs.Totals.{segment_count}
 
 position_in-at : (xs : List ℕ) (i : ℕ) → IsDistinct nat_eq xs → i < length xs → position_in xs (at xs i) ≡ i
 position_in-at [] i distinct low = absurd (omega (arith, low))

@@ -1,12 +1,4 @@
-pub mod CrossingLists
 pub mod Decided
-pub mod EntryLists
 pub mod Excluded
 pub mod FirstFlaws
-pub mod Limits
-pub mod Listed
-pub mod Numbered
-pub mod OrdersFound
-pub mod PairOrder
-pub mod Rising
 pub mod Totals

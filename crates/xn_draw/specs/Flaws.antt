@@ -1,35 +1,30 @@
 -- What is first wrong with lists and turns that are said to be a drawing of a graph.
 use Rattle.std.specs.Prelude.{◌≡◌, ℕ, ◌+◌, ◌*◌, ◌<◌, ◌⊎◌, ◌↔◌, true, List, length}
-use Rattle.xn_model.specs.Drawing.{CrossesAt, IsListedDrawing, order_of}
+use Rattle.xn_model.specs.Drawing.{CrossesAt, IsListedDrawing, drawn_web, order_of}
 use Rattle.xn_model.specs.Graph.{Graph, IsGraph, edges_of}
 use Rattle.xn_model.specs.Lists.{at, has, total}
 use Rattle.xn_model.specs.Map.{IsMap}
 use Rattle.xn_model.specs.Orders.{IsOrders}
-use Rattle.xn_model.specs.Web.{web_of}
 use Rattle.xn_graph.specs.Counts.{IsBalanced, euler_of}
 use Rattle.xn_kinds.specs.declared.flaws.DrawFlaw.{DrawFlaw}
 use Rattle.xn_kinds.specs.declared.flaws.DrawFlaw.TheVariants.{Length, Order, Dependent, Rotation, Touch, Genus}
 use Rattle.xn_map.specs.Rotation.{IsRotationFlaw}
-use Rattle.xn_draw.specs.Entries.{IsDependent, IsDisorderly, NamesFirst, NoEntry}
+use Rattle.xn_orders.specs.Entries.{IsDependent, IsStray, NamesFirst, NoEntry}
 
 -- one list for each edge, and two turns for each segment: an edge has one more than its list has entries
 pub record HasLengths (g : Graph) (lists : List (List ℕ)) (next : List ℕ) : Type 0 where
   pub lists_fit : length lists ≡ length g.ends
   pub next_fits : length next ≡ 2 * (length g.ends + total length lists)
 
--- the lists are in order, by edges in range, without repeats, both ways
+-- no entry of the lists is stray: each is an edge, without repeats, both ways
 pub record HasOrder (g : Graph) (lists : List (List ℕ)) (next : List ℕ) : Type 0 where
   pub lengths : HasLengths g lists next
-  pub order : NoEntry (order_of g lists) (IsDisorderly (length g.ends) (order_of g lists))
+  pub order : NoEntry (order_of g lists) (IsStray (edges_of g) (order_of g lists))
 
 -- the lists are orders
 pub record HasOrders (g : Graph) (lists : List (List ℕ)) (next : List ℕ) : Type 0 where
   pub lengths : HasLengths g lists next
   pub orders : IsOrders g.ends (edges_of g) (order_of g lists)
-
--- the web of the lists
-abbrev pub drawn_web : Graph → List (List ℕ) → Graph
-drawn_web g lists = web_of g (edges_of g) (order_of g lists)
 
 -- the turns go round the nodes of the web
 pub record HasMap (g : Graph) (lists : List (List ℕ)) (next : List ℕ) : Type 0 where
@@ -55,7 +50,7 @@ pub record HasCrossings (g : Graph) (lists : List (List ℕ)) (next : List ℕ) 
 abbrev pub IsFlaw : Graph → List (List ℕ) → List ℕ → DrawFlaw → Type 0
 IsFlaw g lists next Length = ¬ (HasLengths g lists next)
 IsFlaw g lists next (Order e f) =
-    HasLengths g lists next × NamesFirst (order_of g lists) (IsDisorderly (length g.ends) (order_of g lists)) e f
+    HasLengths g lists next × NamesFirst (order_of g lists) (IsStray (edges_of g) (order_of g lists)) e f
 IsFlaw g lists next (Dependent e f) =
     HasOrder g lists next × NamesFirst (order_of g lists) (IsDependent g.ends (order_of g lists)) e f
 IsFlaw g lists next (Rotation d) = HasOrders g lists next × IsRotationFlaw (drawn_web g lists).ends (at next) d

@@ -1,11 +1,11 @@
 -- What is seen of a drawing, and why lists and turns are refused.
 use Rattle.std.specs.Prelude.{◌≡◌, ℕ, List}
-use Rattle.xn_model.specs.Drawing.{IsListedDrawing, order_of}
+use Rattle.xn_model.specs.Drawing.{IsListedDrawing, drawn_web, order_of}
 use Rattle.xn_model.specs.Graph.{Graph}
 use Rattle.xn_model.specs.Lists.{at}
 use Rattle.xn_model.specs.Orders.{crossing_count}
 use Rattle.xn_graph.specs.Counts.{euler_of}
-use Rattle.xn_draw.specs.Flaws.{IsFlaw, drawn_web}
+use Rattle.xn_draw.specs.Flaws.{IsFlaw}
 use Rattle.xn_draw.specs.declared.results.Seen.{Seen}
 use Rattle.xn_draw.specs.declared.results.DrawErr.{DrawErr}
 use Rattle.xn_draw.specs.declared.results.DrawErr.TheVariants.{Flaw, Memory}

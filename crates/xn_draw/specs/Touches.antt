@@ -3,7 +3,7 @@ use Rattle.std.specs.Prelude.{◌≡◌, ℕ, ◌+◌, ◌*◌, ◌<◌, ◌≤�
 use Rattle.std.specs.List.{range_with_len}
 use Rattle.xn_model.specs.Lists.{at}
 use Rattle.xn_model.specs.Web.{first_segment}
-use Rattle.xn_draw.specs.Entries.{list_of}
+use Rattle.xn_orders.specs.Entries.{list_of}
 
 -- from the end of the segment two turns lead to the next segment
 abbrev pub RunsOn : (ℕ → ℕ) → ℕ → Type 0

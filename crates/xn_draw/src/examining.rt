@@ -3,18 +3,18 @@ ghost use Rattle.std.specs.Prelude.{◌≡◌, ◌≤◌, ◌^◌, length, IfOk,
 ghost use Rattle.std.specs.List.{range_with_len};
 ghost use Rattle.xn_map.specs.Listed.{map_of};
 ghost use Rattle.xn_model.specs.Graph.{edges_of};
-ghost use Rattle.xn_draw.specs.Flaws.{HasCrossings, HasMap, HasOrders, drawn_web};
+ghost use Rattle.xn_model.specs.Drawing.{drawn_web};
+ghost use Rattle.xn_draw.specs.Flaws.{HasCrossings, HasMap, HasOrders};
 ghost use Rattle.xn_draw.specs.Seen.{IsCause, IsSeen};
 
-use crate::entries::{dependent_entry, disorderly_entry};
 use crate::lengths::has_lengths;
-use crate::planar::planarise;
 use crate::results::{DrawErr, Seen};
 use crate::touches::touch;
-use std::alloc::{AllocError, Global};
+use std::alloc::Global;
 use xn_graph::Graph;
 use xn_kinds::{DrawFlaw, Drawing};
 use xn_map::{Map, MapErr};
+use xn_orders::{OrdersFlaw, orders_flaw, planarise};
 
 /// What is seen of a drawing of the graph, or its first flaw.
 ///
@@ -24,8 +24,9 @@ pub fn examine(alloc: Global, graph: &Graph, drawing: &Drawing) -> Result<Seen, 
     ensures ok { IfOk result (IsSeen graph.now drawing.now.orders drawing.now.next) }
     ensures err { IfErr result (IsCause graph.now drawing.now.orders drawing.now.next) }
 {
-    check_lists(alloc, graph, drawing)?;
-    let map = map_of(alloc, graph, drawing)?;
+    let edges = graph.all_edges(alloc)?;
+    check_lists(alloc, graph, &edges, drawing)?;
+    let map = map_of(alloc, graph, &edges, drawing)?;
     check_crossings(graph, drawing, &map)?;
     let euler = map.euler(alloc)?;
     if euler.v + euler.f != 2 * euler.c + euler.e {
@@ -35,47 +36,49 @@ pub fn examine(alloc: Global, graph: &Graph, drawing: &Drawing) -> Result<Seen, 
     Ok(Seen { crossings, euler })
 }
 
-/// Whether the lists are orders, and lists and turns of the right number.
-pub fn check_lists(alloc: Global, graph: &Graph, drawing: &Drawing) -> Result<(), DrawErr>
+// Whether the lists are orders of all edges, and lists and turns of the right number.
+fn check_lists(
+    alloc: Global,
+    graph: &Graph,
+    edges: &[u32],
+    drawing: &Drawing,
+) -> Result<(), DrawErr>
+    requires { edges.now ≡ edges_of graph.now }
     ensures { let d = drawing.now in
         MatchResult result (λ _. HasOrders graph.now d.orders d.next) (IsCause graph.now d.orders d.next) }
 {
     if !has_lengths(graph, &drawing.orders, drawing.next.as_slice()) {
         return Err(DrawErr::Flaw(DrawFlaw::Length));
     }
-    if let Some((e, f)) = disorderly_entry(alloc, graph, &drawing.orders)? {
-        return Err(DrawErr::Flaw(DrawFlaw::Order(e, f)));
+    match orders_flaw(alloc, graph, edges, &drawing.orders)? {
+        None => Ok(()),
+        Some(OrdersFlaw::Stray(e, f)) => Err(DrawErr::Flaw(DrawFlaw::Order(e, f))),
+        Some(OrdersFlaw::Dependent(e, f)) => Err(DrawErr::Flaw(DrawFlaw::Dependent(e, f))),
     }
-    if let Some((e, f)) = dependent_entry(graph, &drawing.orders) {
-        return Err(DrawErr::Flaw(DrawFlaw::Dependent(e, f)));
-    }
-    Ok(())
 }
 
 // The map of the planarised graph with the turns of the drawing.
-fn map_of(alloc: Global, graph: &Graph, drawing: &Drawing) -> Result<Map, DrawErr>
-    requires { HasOrders graph.now drawing.now.orders drawing.now.next }
+fn map_of(
+    alloc: Global,
+    graph: &Graph,
+    edges: &[u32],
+    drawing: &Drawing,
+) -> Result<Map, DrawErr>
+    requires edges { edges.now ≡ edges_of graph.now }
+    requires orders { HasOrders graph.now drawing.now.orders drawing.now.next }
     ensures map { let d = drawing.now in
         MatchResult result
         (λ map. HasMap graph.now d.orders d.next × (map ≡ map_of (drawn_web graph.now d.orders) d.next))
         (IsCause graph.now d.orders d.next) }
     ensures few { IfOk result (λ map. length map.next ≤ 2 ^ 31) }
 {
-    let edges = all_edges(alloc, graph)?;
-    let web = planarise(alloc, graph, &edges, &drawing.orders)?;
+    let web = planarise(alloc, graph, edges, &drawing.orders)?;
     match Map::make(alloc, web, drawing.next.as_slice()) {
         Ok(map) => Ok(map),
         Err(MapErr::Length) => Err(DrawErr::Flaw(DrawFlaw::Length)),
         Err(MapErr::Rotation(d)) => Err(DrawErr::Flaw(DrawFlaw::Rotation(d))),
         Err(MapErr::Memory) => Err(DrawErr::Memory),
     }
-}
-
-/// The numbers of the edges.
-pub fn all_edges(alloc: Global, graph: &Graph) -> Result<Vec<u32>, AllocError>
-    ensures { IfOk result (λ edges. edges.items ≡ edges_of graph.now) }
-{
-    (0..graph.edges()).collect(alloc)
 }
 
 // Whether edges that meet cross.

@@ -1,5 +1,4 @@
 use super::*;
-use crate::examining::{all_edges, check_lists};
 use std::alloc::{AllocError, Global};
 use std::test::Fail;
 use xn_graph::{Euler, Graph};
@@ -88,37 +87,6 @@ fn seen(crossings: u64, v: u64, e: u64, f: u64, c: u64) -> Result<Seen, DrawErr>
 /// The refusal for this flaw.
 fn refused(flaw: DrawFlaw) -> Result<Seen, DrawErr> {
     Err(DrawErr::Flaw(flaw))
-}
-
-#[test]
-fn edges_are_cut_at_their_crossings(rt: HostRuntime) -> Result<(), Fail> {
-    let k5 = graph(rt.alloc(), 5, &K5)?;
-    let orders = orders(rt.alloc(), 10, &[(0, 9), (9, 0)])?;
-    let next = Sequence::new(Vec::from_slice(rt.alloc(), &K5_TURNS)?);
-    let drawing = Drawing { orders, next };
-    check_lists(rt.alloc(), &k5, &drawing)?;
-    let edges = all_edges(rt.alloc(), &k5)?;
-    let web = planarise(rt.alloc(), &k5, &edges, &drawing.orders)?;
-    let ends = [
-        (0, 5),
-        (5, 1),
-        (0, 2),
-        (0, 3),
-        (0, 4),
-        (1, 2),
-        (1, 3),
-        (1, 4),
-        (2, 3),
-        (2, 4),
-        (3, 5),
-        (5, 4),
-    ];
-    assert_eq!(rt; web.nodes(), 6);
-    assert_eq!(rt; web.segments(), 12);
-    for s in 0..12u32 {
-        assert_eq!(rt; web.end(s), ends[s as usize]);
-    }
-    Ok(())
 }
 
 #[test]

@@ -2,8 +2,8 @@
 ghost use Rattle.std.specs.Prelude.{◌≡◌, ℕ, ◌+◌, ◌*◌, ◌<◌, ◌≤◌, ◌^◌, ◌↔◌, length, IsTrue, MatchOption};
 ghost use Rattle.xn_model.specs.Lists.{at, total};
 ghost use Rattle.xn_model.specs.Web.{first_segment};
-ghost use Rattle.xn_draw.specs.Entries.{list_of};
-ghost use Rattle.xn_draw.specs.Touches.{RunsOn, IsLeastTouch, NoTouch, TouchesFirst};
+ghost use Rattle.xn_orders.specs.Entries.{list_of};
+ghost use Rattle.xn_draw.specs.Touches.{IsLeastTouch, NoTouch, RunsOn, TouchesFirst};
 
 use xn_kinds::Orders;
 use xn_map::Map;

@@ -6,7 +6,7 @@ use Rattle.std.proofs.lemmas.Bool.{both_ways, cases_eq, cases_lt, eq-eqb, eqb-tr
 use Rattle.xn_model.specs.Graph.{ends_at, touches}
 use Rattle.xn_model.specs.Insertion.{Follow, GrowsFromFirst, is_old}
 use Rattle.xn_model.specs.Lists.{at, has}
-use Rattle.xn_map.specs.Rotation.{IsFirst}
+use Rattle.xn_model.specs.First.{IsFirst}
 use Rattle.xn_extend.specs.ListFlaw.{AllFit, IsMisfit, Repeats, SharesNode}
 
 -- the first t segments of a list, the last of them first

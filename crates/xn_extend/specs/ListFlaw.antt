@@ -3,7 +3,7 @@ use Rattle.std.specs.Prelude.{◌≡◌, ℕ, ◌<◌, ◌≤◌, ◌⊎◌, ◌
 use Rattle.xn_model.specs.Graph.{Graph, ends_at, touches}
 use Rattle.xn_model.specs.Lists.{at}
 use Rattle.xn_map.specs.Marks.{is_marked}
-use Rattle.xn_map.specs.Rotation.{IsFirst}
+use Rattle.xn_model.specs.First.{IsFirst}
 
 -- an end of r is one of s
 abbrev pub share_node : List (ℕ × ℕ) → ℕ → ℕ → Bool

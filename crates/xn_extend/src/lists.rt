@@ -1,6 +1,6 @@
 ghost use Rattle.std.specs.Prelude.{◌≡◌, ◌^◌, ◌<◌, ◌≤◌, ◌↔◌, false, length, replicate, IfOk, IfSome, IsNone, IsTrue, MatchOption};
 ghost use Rattle.xn_model.specs.Insertion.{GrowsFromFirst};
-ghost use Rattle.xn_map.specs.Rotation.{IsFirst};
+ghost use Rattle.xn_model.specs.First.{IsFirst};
 ghost use Rattle.xn_extend.specs.ListFlaw.{AllFit, FrontMarked, IsListFlaw, IsMisfit};
 
 use std::alloc::{AllocError, Global};

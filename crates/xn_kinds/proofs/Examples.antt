@@ -12,7 +12,7 @@ use Rattle.xn_kinds.specs.Bound.{IsBound, PartsFit}
 use Rattle.xn_kinds.specs.Examples.{OneRowOfK5, WeakLeaf, BranchedTree, k5_row, k5_and_two, crossed_row, one_row}
 use Rattle.xn_kinds.specs.Row.{RowHolds}
 use Rattle.xn_kinds.specs.State.{State, InBox, decide, empty_state, place}
-use Rattle.xn_kinds.specs.Tree.{Keeps}
+use Rattle.xn_kinds.specs.Tree.{MayOpen}
 use Rattle.xn_kinds.specs.declared.rows.Row.{Row}
 use Rattle.xn_kinds.specs.declared.trees.Node.TheVariants.{Pair, Place}
 use Rattle.xn_kinds.proofs.Given.{given_in_box, given_or}
@@ -123,7 +123,7 @@ abbrev rows : List Row
 rows = k5_row ∷ []
 
 -- a leaf with the one row closes a state in which its bound is above 0
-closes : (s : State) (b : ℕ) → 0 < b → IsBound k5_and_two rows s 1 ((0, 1) ∷ []) (pos b) → Keeps k5_and_two 1 rows s one_row
+closes : (s : State) (b : ℕ) → 0 < b → IsBound k5_and_two rows s 1 ((0, 1) ∷ []) (pos b) → MayOpen k5_and_two 1 rows s one_row
 closes s b above bound = (omega arith, omega arith, one_part 1 (omega arith) (omega arith), (pos b, bound, omega (arith, ints)))
 
 abbrev crossed_state : State
@@ -141,35 +141,35 @@ placed_once = place twice_crossed 10 11 0
 abbrev placed_twice : ℕ → State
 placed_twice i = place placed_once 10 0 i
 
-apart_closes : Keeps k5_and_two 1 rows apart_state one_row
+apart_closes : MayOpen k5_and_two 1 rows apart_state one_row
 apart_closes = closes apart_state 1 (omega arith) (record {
   below_all = λ v box. omega (arith, ints);
   met = (given_or 0 apart_state, low_values apart_state, refl);
 })
 
-once_closes : Keeps k5_and_two 1 rows once_crossed one_row
+once_closes : MayOpen k5_and_two 1 rows once_crossed one_row
 once_closes = closes once_crossed 2 (omega arith) (record {
   below_all = λ v box. omega (arith, ints, box.decided 10 11 true refl);
   met = (given_or 0 once_crossed, low_values once_crossed, refl);
 })
 
-twice_closes : (i : ℕ) → Keeps k5_and_two 1 rows (placed_twice i) one_row
+twice_closes : (i : ℕ) → MayOpen k5_and_two 1 rows (placed_twice i) one_row
 twice_closes i = closes (placed_twice i) 3 (omega arith) (record {
   below_all = λ v box. omega (arith, ints, box.decided 10 11 true refl, box.decided 0 10 true refl);
   met = (given_or 0 (placed_twice i), low_values (placed_twice i), refl);
 })
 
 -- the pairs and places of the tree
-pairs_keep : Keeps k5_and_two 1 rows empty_state (Pair 10 11)
+pairs_keep : MayOpen k5_and_two 1 rows empty_state (Pair 10 11)
 pairs_keep = (omega arith, omega arith, refl, refl)
 
-second_keeps : Keeps k5_and_two 1 rows crossed_state (Pair 0 10)
+second_keeps : MayOpen k5_and_two 1 rows crossed_state (Pair 0 10)
 second_keeps = (omega arith, omega arith, refl, refl)
 
-third_keeps : Keeps k5_and_two 1 rows twice_crossed (Place 10 11)
+third_keeps : MayOpen k5_and_two 1 rows twice_crossed (Place 10 11)
 third_keeps = (inl refl, refl)
 
-fourth_keeps : Keeps k5_and_two 1 rows placed_once (Place 10 0)
+fourth_keeps : MayOpen k5_and_two 1 rows placed_once (Place 10 0)
 fourth_keeps = (inr refl, refl)
 
 pub branched_tree : BranchedTree

@@ -29,10 +29,14 @@ part_value g rows v p = pos p.1 *ℤ (pos (value_of g (row_at rows p.0) v) -ℤ 
 abbrev pub leaf_value : Graph → List Row → ℕ → List (ℕ × ℕ) → Values → ℤ
 leaf_value g rows d parts v = (pos d *ℤ pos (crossings_in g v)) -ℤ total_ℤ (part_value g rows v) parts
 
--- b is the least of these values over the box
-pub record IsBound (g : Graph) (rows : List Row) (s : State) (d : ℕ) (parts : List (ℕ × ℕ)) (b : ℤ) : Type 0 where
-  pub below_all : (v : Values) → InBox s v → b ≤ℤ leaf_value g rows d parts v
-  pub met : (v : Values) × InBox s v × (leaf_value g rows d parts v ≡ b)
+-- b is the least that f gives over a set of values
+pub record IsLeastOver (Box : Values → Type 0) (f : Values → ℤ) (b : ℤ) : Type 0 where
+  pub below_all : (v : Values) → Box v → b ≤ℤ f v
+  pub met : (v : Values) × Box v × (f v ≡ b)
+
+-- b is the least value of the leaf over the box of the state
+abbrev pub IsBound : Graph → List Row → State → ℕ → List (ℕ × ℕ) → ℤ → Type 0
+IsBound g rows s d parts b = IsLeastOver (InBox s) (leaf_value g rows d parts) b
 
 -- the bound is above d * (k - 1)
 abbrev pub IsStrong : Graph → ℕ → List Row → State → ℕ → List (ℕ × ℕ) → Type 0

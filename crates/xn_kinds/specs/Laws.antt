@@ -4,7 +4,7 @@ use Rattle.xn_model.specs.Graph.{Graph}
 use Rattle.xn_kinds.specs.Bound.{IsBound, IsStrong, PartsFit}
 use Rattle.xn_kinds.specs.Row.{values_in}
 use Rattle.xn_kinds.specs.State.{State, InBox, IsState, LiesIn, empty_state}
-use Rattle.xn_kinds.specs.Tree.{Keeps, Proves, children}
+use Rattle.xn_kinds.specs.Tree.{MayOpen, Proves, children}
 use Rattle.xn_kinds.specs.declared.rows.Row.{Row}
 use Rattle.xn_kinds.specs.declared.trees.Node.{Node}
 use Rattle.xn_kinds.specs.declared.trees.Node.TheVariants.{Leaf}
@@ -34,4 +34,4 @@ EmptyIsState = (g : Graph) → IsState g empty_state
 -- the children of a node that keeps its rule have states of the graph
 abbrev pub ChildrenAreStates : Type 0
 ChildrenAreStates = (g : Graph) (k : ℕ) (rows : List Row) (s : State) (node : Node) →
-    IsState g s → Keeps g k rows s node → All (IsState g) (children s node)
+    IsState g s → MayOpen g k rows s node → All (IsState g) (children s node)

@@ -23,11 +23,18 @@ BeginTrees keeps children [] nodes = ⊥
 BeginTrees keeps children (s ∷ pending) [] = Unit {0}
 BeginTrees keeps children (s ∷ pending) (node ∷ nodes) = keeps s node × BeginTrees keeps children (children s node ++ pending) nodes
 
--- the rule of one node of a proof of k, in its state
-abbrev pub Keeps : Graph → ℕ → List Row → State → Node → Type 0
-Keeps g k rows s (Pair e f) = (e < f) × (f < length g.ends) × Independent g.ends e f × (s.decided e f ≡ None)
-Keeps g k rows s (Place e f) = Crosses s e f × (has (s.placed e) f ≡ false)
-Keeps g k rows s (Leaf d parts) = (1 ≤ d) × (d < 2 ^ 63) × PartsFit (length rows) parts × IsStrong g k rows s d parts
+-- the node fits the state: its pair is an undecided one of independent edges, the smaller first, or the edge that it places is
+-- decided to cross the other and isn't placed along it; what a leaf says of its bound is left aside
+abbrev pub Fits : Graph → State → Node → Type 0
+Fits g s (Pair e f) = (e < f) × (f < length g.ends) × Independent g.ends e f × (s.decided e f ≡ None)
+Fits g s (Place e f) = Crosses s e f × (has (s.placed e) f ≡ false)
+Fits g s (Leaf d parts) = Unit {0}
+
+-- the node may stand in a proof of k, in its state: it fits, and the bound of a leaf is above d * (k - 1)
+abbrev pub MayOpen : Graph → ℕ → List Row → State → Node → Type 0
+MayOpen g k rows s (Pair e f) = Fits g s (Pair e f)
+MayOpen g k rows s (Place e f) = Fits g s (Place e f)
+MayOpen g k rows s (Leaf d parts) = (1 ≤ d) × (d < 2 ^ 63) × PartsFit (length rows) parts × IsStrong g k rows s d parts
 
 -- the states of the children of a node
 abbrev pub children : State → Node → List State
@@ -37,11 +44,11 @@ children s (Leaf d parts) = []
 
 -- the nodes prove k from a state
 abbrev pub Proves : Graph → ℕ → List Row → State → List Node → Type 0
-Proves g k rows s nodes = AreTrees (Keeps g k rows) children (s ∷ []) nodes
+Proves g k rows s nodes = AreTrees (MayOpen g k rows) children (s ∷ []) nodes
 
 -- the nodes begin trees that prove k from the pending states
 abbrev pub Begins : Graph → ℕ → List Row → List State → List Node → Type 0
-Begins g k rows pending nodes = BeginTrees (Keeps g k rows) children pending nodes
+Begins g k rows pending nodes = BeginTrees (MayOpen g k rows) children pending nodes
 
 -- the nodes begin a proof of k
 abbrev pub BeginsProof : Graph → ℕ → List Row → List Node → Type 0

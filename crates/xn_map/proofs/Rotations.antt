@@ -6,8 +6,9 @@ use Rattle.xn_model.specs.Graph.{EndsIn}
 use Rattle.xn_model.specs.Map.{IsMap, tail_of}
 use Rattle.xn_model.specs.Permutation.{Permutes, Reaches, iterate}
 use Rattle.xn_ring.proofs.Orbits.{cases_reaches, first_below, reaches_back, reaches_trans}
+use Rattle.xn_model.specs.First.{IsFirst}
 use Rattle.xn_map.specs.Marks.{MarksCycle, MarksCyclesBelow, is_marked}
-use Rattle.xn_map.specs.Rotation.{AreTogether, FlawsAreNoMaps, IsAstray, IsFirst, IsRotationFlaw, LeadsRight, LeadsWrong, MarksTargets, MarksTails}
+use Rattle.xn_map.specs.Rotation.{AreTogether, FlawsAreNoMaps, IsAstray, IsRotationFlaw, LeadsRight, LeadsWrong, MarksTargets, MarksTails}
 use Rattle.xn_map.proofs.Marking.{cycle_marked, is_marked-set, marked_before}
 
 -- one more target

@@ -1,14 +1,10 @@
 -- Where a list of successors is first no rotation.
 use Rattle.std.specs.Prelude.{◌≡◌, ◌≢◌, ℕ, ◌*◌, ◌<◌, ◌≤◌, ◌⊎◌, ◌↔◌, Bool, true, List, Option, MatchOption, length}
+use Rattle.xn_model.specs.First.{IsFirst}
 use Rattle.xn_model.specs.Graph.{Graph}
 use Rattle.xn_model.specs.Map.{IsMap, tail_of}
 use Rattle.xn_model.specs.Permutation.{Reaches}
 use Rattle.xn_map.specs.Marks.{is_marked}
-
--- n is the first number of which P is true
-pub record IsFirst (P : ℕ → Type 0) (n : ℕ) : Type 0 where
-  pub here : P n
-  pub before : (m : ℕ) → m < n → ¬ (P m)
 
 -- next leads d out of range, to another node, or where it leads a smaller dart
 abbrev pub LeadsWrong : List (ℕ × ℕ) → (ℕ → ℕ) → ℕ → Type 0

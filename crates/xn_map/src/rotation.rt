@@ -3,7 +3,8 @@ ghost use Rattle.std.specs.Prelude.{◌≡◌, ℕ, ◌+◌, ◌*◌, ◌^◌, �
 ghost use Rattle.xn_model.specs.Lists.{at};
 ghost use Rattle.xn_model.specs.Permutation.{Permutes};
 ghost use Rattle.xn_map.specs.Marks.{IsClosed, MarksCycle, is_marked};
-ghost use Rattle.xn_map.specs.Rotation.{AreTogether, IsAstray, IsFirst, IsFlawOrMap, LeadsRight, LeadsWrong, MarksTargets};
+ghost use Rattle.xn_model.specs.First.{IsFirst};
+ghost use Rattle.xn_map.specs.Rotation.{AreTogether, IsAstray, IsFlawOrMap, LeadsRight, LeadsWrong, MarksTargets};
 
 use crate::darts::tail;
 use std::alloc::{AllocError, Global};

@@ -22,10 +22,14 @@ pub record IsDrawing (g : Graph) (ord : ℕ → List ℕ) (next : ℕ → ℕ) :
 abbrev pub order_of : Graph → List (List ℕ) → ℕ → List ℕ
 order_of g lists = order_at (edges_of g) lists
 
+-- the planarised graph of the lists
+abbrev pub drawn_web : Graph → List (List ℕ) → Graph
+drawn_web g lists = web_of g (edges_of g) (order_of g lists)
+
 -- one list for each edge and two turns for each segment, and they are a drawing
 pub record IsListedDrawing (g : Graph) (lists : List (List ℕ)) (next : List ℕ) : Type 0 where
   pub lists_fit : length lists ≡ length g.ends
-  pub next_fits : length next ≡ 2 * length (web_of g (edges_of g) (order_of g lists)).ends
+  pub next_fits : length next ≡ 2 * length (drawn_web g lists).ends
   pub drawing : IsDrawing g (order_of g lists) (at next)
 
 -- some drawing has c crossings

@@ -1,4 +1,5 @@
 pub mod Lists
+pub mod First
 pub mod Permutation
 pub mod Graph
 pub mod Orders

@@ -1,9 +1,9 @@
 -- Where a row holds, and what of it is first wrong.
-use Rattle.std.specs.Prelude.{◌≡◌, ℕ, ◌-◌, ◌<◌, ◌≤◌, ◌⊎◌, false, List, length}
+use Rattle.std.specs.Prelude.{◌≡◌, ℕ, ◌-◌, ◌<◌, ◌≤◌, ◌⊎◌, List, length}
 use Rattle.xn_model.specs.Evidence.{five_pairs, three_pairs}
-use Rattle.xn_model.specs.Graph.{Graph, Independent}
+use Rattle.xn_model.specs.Graph.{Graph}
 use Rattle.xn_model.specs.Insertion.{GrowsFromFirst, ReachesEnd}
-use Rattle.xn_model.specs.Lists.{at, has}
+use Rattle.xn_model.specs.Lists.{at}
 use Rattle.xn_model.specs.Orders.{IsEdgeList, IsOrders}
 use Rattle.xn_model.specs.Web.{web_of}
 use Rattle.xn_kinds.specs.Row.{orders_of}
@@ -16,9 +16,7 @@ use Rattle.xn_kinds.specs.declared.flaws.RowFlaw.TheVariants.{Evidence as OfEvid
 use Rattle.xn_kinds.specs.declared.rows.Evidence.{Evidence}
 use Rattle.xn_kinds.specs.declared.rows.Evidence.TheVariants.{Five, ThreeThree, Extension}
 use Rattle.xn_kinds.specs.declared.rows.Row.{Row}
-use Rattle.xn_map.specs.Rotation.{IsFirst}
-use Rattle.xn_draw.specs.Entries.{IsDependent, NamesFirst, NoEntry}
-use Rattle.xn_draw.specs.Pairs.{has_pair}
+use Rattle.xn_orders.specs.Entries.{IsDependent, IsFirstOf, IsStray, NamesFirst, NoEntry}
 use Rattle.xn_extend.specs.ListFlaw.{IsListFlaw}
 use Rattle.xn_kura.specs.Flaws.{IsFirstEvidenceFlaw}
 use Rattle.xn_rows.specs.declared.causes.RowErr.{RowErr}
@@ -35,43 +33,11 @@ pub record HasSizes (row : Row) : Type 0 where
   pub lists_fit : length row.orders ≡ length row.edges
   pub paths_fit : HasPaths row.evidence
 
--- ---- the first of a list
-
--- no place of the list is wrong
-abbrev pub NoneOf : List ℕ → (ℕ → Type 0) → Type 0
-NoneOf xs Wrong = (i : ℕ) → i < length xs → ¬ (Wrong i)
-
--- x stands at the first wrong place of the list
-abbrev pub IsFirstOf : List ℕ → (ℕ → Type 0) → ℕ → Type 0
-IsFirstOf xs Wrong x = (i : ℕ) × (i < length xs) × IsFirst Wrong i × (at xs i ≡ x)
-
--- ---- edges and orders
+-- ---- edges
 
 -- listed edge i is no edge, or isn't above the one before it
 abbrev pub IsWrongEdge : ℕ → List ℕ → ℕ → Type 0
 IsWrongEdge count edges i = (count ≤ at edges i) ⊎ ((0 < i) × (at edges i ≤ at edges (i - 1)))
-
--- entry i of the list of e isn't listed, or stood before in the list, or hasn't e in its own list
-abbrev pub IsStray : List ℕ → (ℕ → List ℕ) → ℕ → ℕ → Type 0
-IsStray edges ord e i =
-    (has edges (at (ord e) i) ≡ false) ⊎ (((j : ℕ) × (j < i) × (at (ord e) j ≡ at (ord e) i)) ⊎ (has (ord (at (ord e) i)) e ≡ false))
-
--- entry i of a list of e stood before in the list, or makes no pair with e
-abbrev pub IsUnpaired : List (ℕ × ℕ) → ℕ → List ℕ → ℕ → Type 0
-IsUnpaired pairs e list i = ((j : ℕ) × (j < i) × (at list j ≡ at list i)) ⊎ (has_pair pairs (at list i) e ≡ false)
-
--- entry i of a list of e isn't independent of e
-abbrev pub IsClose : List (ℕ × ℕ) → ℕ → List ℕ → ℕ → Type 0
-IsClose ends e list i = ¬ (Independent ends e (at list i))
-
--- the edges are a list of edges, and no entry is stray
-pub record HasOrder (g : Graph) (row : Row) : Type 0 where
-  pub edge_list : IsEdgeList (length g.ends) row.edges
-  pub order : NoEntry (orders_of row) (IsStray row.edges (orders_of row))
-
--- the lists are orders over the edges
-abbrev pub HasOrders : Graph → Row → Type 0
-HasOrders g row = IsOrders g.ends row.edges (orders_of row)
 
 -- ---- evidence
 
@@ -115,9 +81,12 @@ abbrev pub IsRowFlaw : Graph → Row → RowFlaw → Type 0
 IsRowFlaw g row (Edge e) = IsFirstOf row.edges (IsWrongEdge (length g.ends) row.edges) e
 IsRowFlaw g row (Order e f) =
     IsEdgeList (length g.ends) row.edges × NamesFirst (orders_of row) (IsStray row.edges (orders_of row)) e f
-IsRowFlaw g row (Dependent e f) = HasOrder g row × NamesFirst (orders_of row) (IsDependent g.ends (orders_of row)) e f
-IsRowFlaw g row (OfEvidence flaw) = HasOrders g row × IsEvidenceFlaw (row_web g row) row.evidence flaw
-IsRowFlaw g row Extends = HasOrders g row × IsReached (row_web g row) row.evidence
+IsRowFlaw g row (Dependent e f) =
+    IsEdgeList (length g.ends) row.edges × NoEntry (orders_of row) (IsStray row.edges (orders_of row))
+    × NamesFirst (orders_of row) (IsDependent g.ends (orders_of row)) e f
+IsRowFlaw g row (OfEvidence flaw) =
+    IsOrders g.ends row.edges (orders_of row) × IsEvidenceFlaw (row_web g row) row.evidence flaw
+IsRowFlaw g row Extends = IsOrders g.ends row.edges (orders_of row) × IsReached (row_web g row) row.evidence
 
 -- a flaw is the first; want of memory needs no cause
 abbrev pub IsRowCause : Graph → Row → RowErr → Type 0

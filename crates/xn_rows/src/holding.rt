@@ -4,17 +4,18 @@ ghost use Rattle.xn_model.specs.Graph.{HasNoLoop, IsGraph};
 ghost use Rattle.xn_kinds.specs.Row.{EvidenceHolds, RowHolds};
 ghost use Rattle.xn_kinds.specs.declared.rows.Evidence.TheVariants.{Extension};
 ghost use Rattle.xn_kura.specs.Flaws.{HasAKind};
-ghost use Rattle.xn_rows.specs.Holding.{HasOrders, HasPaths, HasSizes, IsCauseFor, IsRowCause};
+ghost use Rattle.xn_kinds.specs.Row.{orders_of};
+ghost use Rattle.xn_model.specs.Orders.{IsOrders};
+ghost use Rattle.xn_rows.specs.Holding.{HasPaths, HasSizes, IsCauseFor, IsRowCause};
 
 use crate::causes::RowErr;
-use crate::dependents::dependent_entry;
-use crate::strays::{stray_entry, wrong_edge};
+use crate::edges::wrong_edge;
 use std::alloc::{AllocError, Global};
-use xn_draw::planarise;
 use xn_extend::{Extended, extend, list_flaw};
 use xn_graph::{Graph, Web};
 use xn_kinds::{Evidence, EvidenceFlaw, Row, RowFlaw};
 use xn_kura::{Marks, holds};
+use xn_orders::{OrdersFlaw, orders_flaw, planarise};
 
 /// Whether a row is one of the graph and holds; if not, its first flaw.
 ///
@@ -33,21 +34,18 @@ pub fn row_holds(alloc: Global, graph: &Graph, row: &Row) -> Result<(), RowErr>
 // Whether the lists are orders over the edges.
 fn check_orders(alloc: Global, graph: &Graph, row: &Row) -> Result<(), RowErr>
     requires { length row.now.orders ≡ length row.now.edges }
-    ensures orders { MatchResult result (λ _. HasOrders graph.now row.now) (IsRowCause graph.now row.now) }
+    ensures orders { MatchResult result (λ _. IsOrders graph.now.ends row.now.edges (orders_of row.now)) (IsRowCause graph.now row.now) }
     ensures graph { IsGraph graph.now }
 {
-    let count = graph.edges();
     let edges = row.edges.as_slice();
-    if let Some(e) = wrong_edge(count, edges) {
+    if let Some(e) = wrong_edge(graph.edges(), edges) {
         return Err(RowErr::Flaw(RowFlaw::Edge(e)));
     }
-    if let Some((e, f)) = stray_entry(alloc, count, edges, &row.orders)? {
-        return Err(RowErr::Flaw(RowFlaw::Order(e, f)));
+    match orders_flaw(alloc, graph, edges, &row.orders)? {
+        None => Ok(()),
+        Some(OrdersFlaw::Stray(e, f)) => Err(RowErr::Flaw(RowFlaw::Order(e, f))),
+        Some(OrdersFlaw::Dependent(e, f)) => Err(RowErr::Flaw(RowFlaw::Dependent(e, f))),
     }
-    if let Some((e, f)) = dependent_entry(graph, edges, &row.orders) {
-        return Err(RowErr::Flaw(RowFlaw::Dependent(e, f)));
-    }
-    Ok(())
 }
 
 // Whether the evidence holds for a web.

@@ -2,10 +2,9 @@
 #![tactic(auto)]
 
 mod causes;
-mod dependents;
+mod edges;
 mod holding;
 pub mod laws;
-mod strays;
 #[cfg(test)]
 mod tests;
 

@@ -3,7 +3,7 @@ use Rattle.std.proofs.Common.{◌≡◌, ℕ, zero, suc, ◌+◌, List, [], ◌�
 use Rattle.std.specs.List.{flat_map, range_with_len}
 use Rattle.xn_model.specs.Graph.{Graph}
 use Rattle.xn_model.specs.Web.{segments_of}
-use Rattle.xn_draw.proofs.Limits.{length-segments_of}
+use Rattle.xn_orders.proofs.Limits.{length-segments_of}
 use Rattle.xn_show.specs.Text.{segment_edges}
 use Rattle.xn_show.proofs.Appended.{each_more}
 

@@ -6,7 +6,7 @@ use Rattle.std.specs.List.{AllByRecursion, flat_map, range_with_len}
 use Rattle.std.proofs.lemmas.Bool.{ltb-true}
 use Rattle.std.proofs.lemmas.Fmt.{decimal_digit}
 use Rattle.std.proofs.lemmas.List.{append-nil, take_all}
-use Rattle.xn_model.specs.Drawing.{IsListedDrawing, order_of}
+use Rattle.xn_model.specs.Drawing.{IsListedDrawing, drawn_web, order_of}
 use Rattle.xn_model.specs.Graph.{Graph, HasNoLoop, edges_of, ends_at}
 use Rattle.xn_model.specs.Lists.{at}
 use Rattle.xn_model.specs.Permutation.{walk}
@@ -22,10 +22,9 @@ use Rattle.xn_gml.specs.Lists.{is_list_of, lists_of, pairs_from}
 use Rattle.xn_gml.specs.Meaning.{edges_from, graph_in, graph_within, ids_from, list_of, no_edges}
 use Rattle.xn_gml.specs.Tokens.{ends_run, token, tokens_from, tokens_of}
 use Rattle.xn_kinds.specs.declared.drawings.Drawing.{Drawing}
-use Rattle.xn_draw.specs.Flaws.{drawn_web}
-use Rattle.xn_draw.proofs.Limits.{web_limited}
-use Rattle.xn_draw.proofs.Rising.{each_append}
-use Rattle.xn_rows.proofs.LoopFree.{no_loop}
+use Rattle.xn_orders.proofs.Limits.{web_limited}
+use Rattle.xn_orders.proofs.LoopFree.{no_loop}
+use Rattle.xn_orders.proofs.Rising.{each_append}
 use Rattle.xn_show.specs.Laws.{found_web, numbered}
 use Rattle.xn_show.specs.Text.{node_line, segment_edges, segment_line, segments_text, show_text}
 use Rattle.xn_show.specs.Turns.{darts_at, turn_of}

@@ -2,13 +2,12 @@
 use Rattle.std.specs.Prelude.{◌≡◌, ℕ, ℤ, pos, ◌≤◌, All, FitsSigned, List, length, map, Ok}
 use Rattle.std.specs.Int.{w64}
 use Rattle.std.specs.List.{range_with_len}
-use Rattle.xn_model.specs.Drawing.{IsListedDrawing}
+use Rattle.xn_model.specs.Drawing.{IsListedDrawing, drawn_web}
 use Rattle.xn_model.specs.Graph.{Graph}
 use Rattle.xn_model.specs.Map.{IsMap}
 use Rattle.xn_graph.specs.Limits.{IsLimitedGraph}
 use Rattle.xn_gml.specs.Meaning.{Found, graph_within}
 use Rattle.xn_kinds.specs.declared.drawings.Drawing.{Drawing}
-use Rattle.xn_draw.specs.Flaws.{drawn_web}
 use Rattle.xn_show.specs.Text.{show_text}
 use Rattle.xn_show.specs.Turns.{HasDartsOnce, turn_of}
 

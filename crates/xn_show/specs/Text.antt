@@ -2,11 +2,10 @@
 use Rattle.std.specs.Prelude.{ℕ, ℤ, pos, suc, List, ◌++◌, length, map, nat_lt, replicate, slice_index_or, if◌then◌else◌, decimal, codes}
 use Rattle.std.specs.Fmt.{signed_decimal}
 use Rattle.std.specs.List.{flat_map, join_with_byte, range_with_len}
-use Rattle.xn_model.specs.Drawing.{order_of}
+use Rattle.xn_model.specs.Drawing.{drawn_web, order_of}
 use Rattle.xn_model.specs.Graph.{Graph, edges_of, ends_at}
 use Rattle.xn_model.specs.Lists.{at}
 use Rattle.xn_kinds.specs.declared.drawings.Drawing.{Drawing}
-use Rattle.xn_draw.specs.Flaws.{drawn_web}
 use Rattle.xn_show.specs.Turns.{turn_of}
 
 -- numbers, each in its one spelling, with one space between each two

@@ -1,9 +1,8 @@
 // The text that shows a drawing.
 ghost use Rattle.std.specs.Prelude.{◌≡◌, ◌++◌, ◌*◌, IfOk, OnOk, length};
-ghost use Rattle.xn_model.specs.Drawing.{IsListedDrawing};
+ghost use Rattle.xn_model.specs.Drawing.{IsListedDrawing, drawn_web};
 ghost use Rattle.xn_model.specs.Graph.{edges_of};
 ghost use Rattle.xn_model.specs.Lists.{at};
-ghost use Rattle.xn_draw.specs.Flaws.{drawn_web};
 ghost use Rattle.xn_show.specs.Darts.{LeadsInside, HasDarts};
 ghost use Rattle.xn_show.specs.Text.{nodes_text, segments_text, show_text};
 
@@ -11,9 +10,9 @@ use crate::segments::segment_edges;
 use crate::turns::{Darts, node_darts};
 use crate::writing::{put_node, put_segment};
 use std::alloc::{AllocError, Global};
-use xn_draw::planarise;
 use xn_graph::{Graph, Web};
 use xn_kinds::Drawing;
+use xn_orders::planarise;
 
 /// The text that shows a drawing of the graph, whose nodes have these ids: the planarised graph as GML, with the rotation.
 ///

@@ -9,7 +9,7 @@ use Rattle.xn_model.specs.Lists.{has}
 use Rattle.xn_model.specs.Orders.{crossing_count}
 use Rattle.xn_kinds.specs.Laws.{ValuesAreInTheBox}
 use Rattle.xn_kinds.specs.State.{State, LiesIn, decide, empty_state, place}
-use Rattle.xn_kinds.specs.Tree.{AreTrees, Keeps, children}
+use Rattle.xn_kinds.specs.Tree.{AreTrees, MayOpen, children}
 use Rattle.xn_kinds.specs.declared.rows.Row.{Row}
 use Rattle.xn_kinds.specs.declared.trees.Node.{Node}
 use Rattle.xn_kinds.specs.declared.trees.Node.TheVariants.{Pair, Place, Leaf}
@@ -97,7 +97,7 @@ any_right ord (x ∷ xs) ys h = inr (any_right ord xs ys h)
 
 module _ (boxed : ValuesAreInTheBox) (g : Graph) (k : ℕ) (rows : List Row) (met : All (IsMet g) rows) (ord : ℕ → List ℕ) (next : ℕ → ℕ) (drawing : IsDrawing g ord next) where
   -- it lies in a child's state or has k crossings
-  node_shows : (s : State) (node : Node) → Keeps g k rows s node → LiesIn ord s → AnyLies ord (children s node) ⊎ (k ≤ crossing_count g ord)
+  node_shows : (s : State) (node : Node) → MayOpen g k rows s node → LiesIn ord s → AnyLies ord (children s node) ⊎ (k ≤ crossing_count g ord)
   node_shows s (Pair e f) keeps lies =
       let child = drawings_lie_in_children g k rows s (Pair e f) keeps tt ord next drawing lies in
       inl (any_from_one ord (children s (Pair e f)) child.0 child.1 child.2)
@@ -106,7 +106,7 @@ module _ (boxed : ValuesAreInTheBox) (g : Graph) (k : ℕ) (rows : List Row) (me
       inl (any_from_one ord (children s (Place e f)) child.0 child.1 child.2)
   node_shows s (Leaf d parts) keeps lies = inr (leaves_have_crossings boxed g k rows s d parts met keeps ord next drawing lies)
 
-  nodes_show : (nodes : List Node) (pending : List State) → AreTrees (Keeps g k rows) children pending nodes → AnyLies ord pending → k ≤ crossing_count g ord
+  nodes_show : (nodes : List Node) (pending : List State) → AreTrees (MayOpen g k rows) children pending nodes → AnyLies ord pending → k ≤ crossing_count g ord
   unfolding AnyLies
   nodes_show [] [] tree lies = absurd lies
   nodes_show [] (s ∷ pending) tree lies = absurd tree

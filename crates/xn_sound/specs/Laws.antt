@@ -9,7 +9,7 @@ use Rattle.xn_fewer.specs.Laws.{IsRestriction}
 use Rattle.xn_kinds.specs.Examples.{k5_and_two}
 use Rattle.xn_kinds.specs.Row.{EvidenceHolds, RowHolds, orders_of, value_of, values_in}
 use Rattle.xn_kinds.specs.State.{State, LiesIn, empty_state}
-use Rattle.xn_kinds.specs.Tree.{Accepts, Keeps, Proves, children}
+use Rattle.xn_kinds.specs.Tree.{Accepts, MayOpen, Proves, children}
 use Rattle.xn_kinds.specs.declared.rows.Evidence.{Evidence}
 use Rattle.xn_kinds.specs.declared.rows.Row.{Row}
 use Rattle.xn_kinds.specs.declared.trees.Node.{Node}
@@ -50,13 +50,13 @@ LiesInOne ord states = (i : ℕ) × (i < length states) × LiesIn ord (slice_ind
 -- a drawing that lies in the state of a node lies in that of a child
 abbrev pub DrawingsLieInChildren : Type 0
 DrawingsLieInChildren =
-    (g : Graph) (k : ℕ) (rows : List Row) (s : State) (node : Node) → Keeps g k rows s node → IsInner node →
+    (g : Graph) (k : ℕ) (rows : List Row) (s : State) (node : Node) → MayOpen g k rows s node → IsInner node →
     (ord : ℕ → List ℕ) (next : ℕ → ℕ) → IsDrawing g ord next → LiesIn ord s → LiesInOne ord (children s node)
 
 -- in a leaf's state it has k crossings
 abbrev pub LeavesHaveCrossings : Type 0
 LeavesHaveCrossings =
-    (g : Graph) (k : ℕ) (rows : List Row) (s : State) (d : ℕ) (parts : List (ℕ × ℕ)) → All (IsMet g) rows → Keeps g k rows s (Leaf d parts) →
+    (g : Graph) (k : ℕ) (rows : List Row) (s : State) (d : ℕ) (parts : List (ℕ × ℕ)) → All (IsMet g) rows → MayOpen g k rows s (Leaf d parts) →
     (ord : ℕ → List ℕ) (next : ℕ → ℕ) → IsDrawing g ord next → LiesIn ord s → k ≤ crossing_count g ord
 
 -- so in the state from which a tree proves k it has k crossings

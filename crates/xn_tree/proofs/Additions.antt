@@ -8,12 +8,12 @@ use Rattle.std.proofs.lemmas.Map.Keys.{apart_from_distinct}
 use Rattle.std.proofs.lemmas.Map.Steps.{length-le_from_distinct_below}
 use Rattle.xn_model.specs.Graph.{Graph}
 use Rattle.xn_model.specs.Lists.{has, total}
-use Rattle.xn_kinds.specs.Bound.{row_at, total_ℤ}
+use Rattle.xn_kinds.specs.Bound.{row_at, total_ℤ, IsLeastOver}
 use Rattle.xn_kinds.specs.Row.{Values, literal, orders_of, turns_value}
-use Rattle.xn_kinds.specs.State.{State}
+use Rattle.xn_kinds.specs.State.{State, InBox}
 use Rattle.xn_kinds.specs.declared.rows.Row.{Row}
 use Rattle.xn_tree.specs.Leaf.{AllWeigh, IsRowOf, WeighsAs, turns_along, turns_sum, turns_part}
-use Rattle.xn_tree.specs.Least.{IsLeast, with_before}
+use Rattle.xn_tree.specs.Least.{with_before}
 use Rattle.xn_tree.proofs.Edges.{rising_distinct}
 use Rattle.xn_tree.proofs.Kept.{eqb-flip}
 use Rattle.xn_tree.proofs.Neighbours.{turns-more, turns-out}
@@ -106,7 +106,7 @@ others_weigh s rows parts e m number weighs ord es out f h rises = record {
 }
 
 -- a number that is more by m
-pub least_shift : (s : State) (f h : Values → ℤ) (b : ℤ) (m : ℤ) → ((v : Values) → h v ≡ f v +ℤ m) → IsLeast s f b → IsLeast s h (b +ℤ m)
+pub least_shift : (s : State) (f h : Values → ℤ) (b : ℤ) (m : ℤ) → ((v : Values) → h v ≡ f v +ℤ m) → IsLeastOver (InBox s) f b → IsLeastOver (InBox s) h (b +ℤ m)
 least_shift s f h b m more least = record {
   below_all = λ v box. omega (arith, ints, more v, least.below_all v box);
   met = (least.met.0, least.met.1, omega (arith, ints, more least.met.0, least.met.2));

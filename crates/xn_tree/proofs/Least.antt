@@ -6,8 +6,9 @@ use Rattle.std.proofs.lemmas.Int.{ints}
 use Rattle.xn_model.specs.Lists.{has, one_if, stands_before}
 use Rattle.xn_kinds.specs.Row.{Values}
 use Rattle.xn_kinds.specs.State.{State, InBox}
+use Rattle.xn_kinds.specs.Bound.{IsLeastOver}
 use Rattle.xn_tree.specs.Leaf.{IsSmall}
-use Rattle.xn_tree.specs.Least.{Allows, IsChange, IsLeast, IsLesser, Moves, Weighs, order_given, with_before, with_cross}
+use Rattle.xn_tree.specs.Least.{Allows, IsChange, IsLesser, Moves, Weighs, order_given, with_before, with_cross}
 
 -- ---- one variable
 
@@ -113,9 +114,9 @@ moves_by s given val put variable f g w u weighs added l m r w_least u_least gap
 pub moves_join : (s : State) (f g h : Values → ℤ) (q r t : ℤ) → Moves s f g q → Moves s g h r → t ≡ q +ℤ r → Moves s f h t
 moves_join s f g h q r t first second sum = λ b least.
     let both : ((b +ℤ q) +ℤ r) ≡ (b +ℤ t) = omega (arith, ints, sum) in
-    subst (IsLeast s h) both (second (b +ℤ q) (first b least))
+    subst (IsLeastOver (InBox s) h) both (second (b +ℤ q) (first b least))
 
-pub least_same : (s : State) (f g : Values → ℤ) (b : ℤ) → ((v : Values) → f v ≡ g v) → IsLeast s f b → IsLeast s g b
+pub least_same : (s : State) (f g : Values → ℤ) (b : ℤ) → ((v : Values) → f v ≡ g v) → IsLeastOver (InBox s) f b → IsLeastOver (InBox s) g b
 least_same s f g b same least = record {
   below_all = λ v box. omega (arith, ints, least.below_all v box, same v);
   met = (least.met.0, least.met.1, sym (same least.met.0) ∙ least.met.2);
@@ -163,7 +164,7 @@ values_in_box s = record {
 }
 
 -- the least of a number that is the same for all values
-pub least_of_one : (s : State) (f : Values → ℤ) (b : ℤ) → ((v : Values) → f v ≡ b) → IsLeast s f b
+pub least_of_one : (s : State) (f : Values → ℤ) (b : ℤ) → ((v : Values) → f v ≡ b) → IsLeastOver (InBox s) f b
 least_of_one s f b same = record {
   below_all = λ v box. omega (arith, ints, same v);
   met = (values_of s, values_in_box s, same (values_of s));

@@ -6,12 +6,12 @@ use Rattle.std.proofs.lemmas.Bool.{and_left, and_right, cond-true, cond-false, n
 use Rattle.std.proofs.lemmas.Int.{ints}
 use Rattle.xn_model.specs.Graph.{Graph, independent}
 use Rattle.xn_model.specs.Lists.{has}
-use Rattle.xn_kinds.specs.Bound.{total_ℤ}
+use Rattle.xn_kinds.specs.Bound.{total_ℤ, IsLeastOver}
 use Rattle.xn_kinds.specs.Row.{Values}
-use Rattle.xn_kinds.specs.State.{State}
+use Rattle.xn_kinds.specs.State.{State, InBox}
 use Rattle.xn_kinds.specs.declared.rows.Row.{Row}
 use Rattle.xn_tree.specs.Leaf.{IgnoresPairs, cross_value, crosses_from, crosses_with, each_pair, edges_from, pair_value}
-use Rattle.xn_tree.specs.Least.{IsLeast, IsLesser, Moves, with_cross}
+use Rattle.xn_tree.specs.Least.{IsLesser, Moves, with_cross}
 use Rattle.xn_tree.proofs.Least.{crosses_variable, least_none, least_same, moves_by}
 
 -- the edges from e on begin with e
@@ -96,7 +96,7 @@ module _ (g : Graph) (rows : List Row) (parts : List (ℕ × ℕ)) (d : ℕ) whe
         Moves s (λ v. crosses_with g rows parts d e (f + 1) v +ℤ rest v) (λ v. crosses_with g rows parts d e f v +ℤ rest v) (pos 0)
     adds_none meet = λ b least.
         let none : b ≡ b +ℤ pos 0 = omega (arith, ints) in
-        subst (IsLeast s (λ v. crosses_with g rows parts d e f v +ℤ rest v)) none
+        subst (IsLeastOver (InBox s) (λ v. crosses_with g rows parts d e f v +ℤ rest v)) none
         (least_same s (λ v. crosses_with g rows parts d e (f + 1) v +ℤ rest v) (λ v. crosses_with g rows parts d e f v +ℤ rest v) b
         (λ v.
         let here : cross_value g rows parts d v e f ≡ pos 0 = cond-false _ _ _ meet in

@@ -11,7 +11,7 @@ use Rattle.xn_model.specs.Lists.{has}
 use Rattle.xn_kinds.specs.State.{State, Crosses, IsState, decide, place}
 use Rattle.xn_tree.specs.Given.{Situation, state_of}
 use Rattle.xn_tree.specs.Steps.{shift, undecide, unplace, value_in}
-use Rattle.xn_tree.specs.Walk.{IsPath, MayAll, MayChoose, later, owed, state_after}
+use Rattle.xn_tree.specs.Walk.{IsNextChoice, IsPath, MayAll, MayChoose, later, owed, state_after}
 use Rattle.xn_tree.specs.declared.walks.Choice.{Choice}
 use Rattle.xn_tree.specs.declared.walks.Choice.TheVariants.{Decided, Placed}
 use Rattle.xn_tree.proofs.Kept.{decided_state, empty_is_state, eqb-flip, placed_state}
@@ -22,7 +22,11 @@ path_is_state g [] may = empty_is_state g
 path_is_state g (Decided e f x ∷ path) may =
     decided_state g (state_after path) (path_is_state g path may.1) e f (Some x) may.0.0 may.0.1 may.0.2 may.0.3
 path_is_state g (Placed e f i ∷ path) may =
-    placed_state g (state_after path) (path_is_state g path may.1) e f i may.0.0 may.0.1
+    placed_state g (state_after path) (path_is_state g path may.1) e f i may.0.0.0 may.0.0.1
+
+-- one choice less
+pub below_top : (g h : Graph) (s t : State) (choice : Choice) (rest : List Choice) → IsPath g s (choice ∷ rest) → h ≡ g → t ≡ state_after rest → IsPath h t rest
+below_top g h s t choice rest top same is = subst (λ k. IsPath k t rest) (sym same) (record { state = is; may = top.may.1 })
 
 -- ---- a decided pair
 
@@ -92,6 +96,17 @@ decided_next g s e f rest top t is =
     let high : max e f ≡ f = omega (arith, top.may.0.0) in
     record { state = rw (low, high) at is; may = top.may }
 
+-- after 0 comes 1, and after 1 none
+pub taken_back_pair : (g h : Graph) (s t : State) (e f : ℕ) (rest : List Choice) → IsPath g s (Decided e f true ∷ rest) → h ≡ g → t ≡ undecide s (min e f) (max e f) →
+    IsNextChoice h t (Decided e f true) rest None
+taken_back_pair g h s t e f rest top same is = (below_top g h s t _ rest top same (is ∙ undecided_is g s e f true rest top), refl)
+
+pub next_pair : (g h : Graph) (s t : State) (e f : ℕ) (rest : List Choice) → IsPath g s (Decided e f false ∷ rest) → h ≡ g →
+    t ≡ decide (undecide s (min e f) (max e f)) (min e f) (max e f) true → IsNextChoice h t (Decided e f false) rest (Some (Decided e f true))
+next_pair g h s t e f rest top same is =
+    let back = ap (λ (u : State). decide u (min e f) (max e f) true) (undecided_is g s e f false rest top) in
+    (subst (λ k. IsPath k t (Decided e f true ∷ rest)) (sym same) (decided_next g s e f rest top t (is ∙ back)), refl)
+
 -- ---- a placed edge
 
 remove-insert : (xs : List ℕ) (i f : ℕ) → i ≤ length xs → remove (insert xs i f) i ≡ xs
@@ -134,7 +149,7 @@ module _ (g : Graph) (s : State) (e f i : ℕ) (rest : List Choice) (top : IsPat
   pub edge_in : e < length g.ends
   edge_in =
       let is_state = path_is_state g rest top.may.1 in
-      elim top.may.0.0 [
+      elim top.may.0.0.0 [
         | inl is ↦ omega (arith, is_state.rises e f true is, is_state.below e f true is)
         | inr is ↦ is_state.below f e true is
       ]
@@ -142,18 +157,18 @@ module _ (g : Graph) (s : State) (e f i : ℕ) (rest : List Choice) (top : IsPat
   pub placed_length : length (s.placed e) ≡ length ((state_after rest).placed e) + 1
   placed_length =
       let b = state_after rest in
-      ap (λ t. length (t.placed e)) top.state ∙ ap length (placed_at b e f i) ∙ length-insert (b.placed e) i f top.may.0.2
+      ap (λ t. length (t.placed e)) top.state ∙ ap length (placed_at b e f i) ∙ length-insert (b.placed e) i f top.may.0.1
 
   pub position_in : i < length (s.placed e)
-  position_in = omega (arith, placed_length, top.may.0.2)
+  position_in = omega (arith, placed_length, top.may.0.1)
 
   pub unplaced_is : unplace s e i ≡ state_after rest
-  unplaced_is = ap (λ t. unplace t e i) top.state ∙ unplace-place (state_after rest) e f i top.may.0.2
+  unplaced_is = ap (λ t. unplace t e i) top.state ∙ unplace-place (state_after rest) e f i top.may.0.1
 
   pub placed_next : i + 1 < length (s.placed e) → (t : State) → t ≡ shift s e i → IsPath g t (Placed e f (i + 1) ∷ rest)
   placed_next more t is = record {
     state = is ∙ ap (λ u. shift u e i) top.state ∙ shift-place (state_after rest) e f i (omega (arith, placed_length, more));
-    may = ((top.may.0.0, top.may.0.1, omega (arith, placed_length, more)), top.may.1);
+    may = ((top.may.0.0, omega (arith, placed_length, more)), top.may.1);
   }
 
   pub owed_next : i + 1 < length (s.placed e) → owed (Placed e f i ∷ rest) ≡ state_after (Placed e f (i + 1) ∷ rest) ∷ owed (Placed e f (i + 1) ∷ rest)
@@ -168,6 +183,21 @@ module _ (g : Graph) (s : State) (e f i : ℕ) (rest : List Choice) (top : IsPat
       let b = state_after rest in
       let left : length (b.placed e) - i ≡ 0 = omega (arith, placed_length, last) in
       ap (λ m. map (place b e f) (range_with_len (i + 1) m) ++ owed rest) left
+
+-- after each position comes the next, and after the last none
+pub taken_back_place : (g h : Graph) (s t : State) (e f i : ℕ) (rest : List Choice) → IsPath g s (Placed e f i ∷ rest) → h ≡ g → i + 1 ≡ length (s.placed e) → t ≡ unplace s e i →
+    IsNextChoice h t (Placed e f i) rest None
+taken_back_place g h s t e f i rest top same last is = (
+  below_top g h s t _ rest top same (is ∙ unplaced_is g s e f i rest top),
+  owed_none g s e f i rest top (λ more. omega (arith, more, last)),
+)
+
+pub next_place : (g h : Graph) (s t : State) (e f i : ℕ) (rest : List Choice) → IsPath g s (Placed e f i ∷ rest) → h ≡ g → i + 1 < length (s.placed e) → t ≡ shift s e i →
+    IsNextChoice h t (Placed e f i) rest (Some (Placed e f (i + 1)))
+next_place g h s t e f i rest top same more is = (
+  subst (λ k. IsPath k t (Placed e f (i + 1) ∷ rest)) (sym same) (placed_next g s e f i rest top more t is),
+  owed_next g s e f i rest top more,
+)
 
 -- ---- steps of the walk
 
@@ -194,10 +224,6 @@ pub pushed : (g h : Graph) (t : State) (zs ys : List Choice) (choice : Choice) �
     IsPath h t (reverse zs)
 pushed g h t zs ys choice same leads whole =
     subst (λ k. IsPath k t (reverse zs)) (sym same) (subst (IsPath g t) (sym (reversed zs ys choice whole)) leads)
-
--- one choice less
-pub below_top : (g h : Graph) (s t : State) (choice : Choice) (rest : List Choice) → IsPath g s (choice ∷ rest) → h ≡ g → t ≡ state_after rest → IsPath h t rest
-below_top g h s t choice rest top same is = subst (λ k. IsPath k t rest) (sym same) (record { state = is; may = top.may.1 })
 
 -- ---- the number of placed edges is one of 32 bits
 

@@ -9,10 +9,9 @@ use Rattle.std.proofs.lemmas.List.Elements.{filter-append}
 use Rattle.xn_model.specs.Graph.{Graph, each_two, edges_of, independent, pairs_of}
 use Rattle.xn_model.specs.Lists.{has, total}
 use Rattle.xn_kinds.specs.State.{State, InBox}
-use Rattle.xn_kinds.specs.Bound.{IsBound, leaf_value, part_value, row_at, total_ℤ}
+use Rattle.xn_kinds.specs.Bound.{IsBound, leaf_value, part_value, row_at, total_ℤ, IsLeastOver}
 use Rattle.xn_kinds.specs.Row.{Values, orders_of, pairs_value, turns_value}
 use Rattle.xn_kinds.specs.declared.rows.Row.{Row}
-use Rattle.xn_tree.specs.Least.{IsLeast}
 use Rattle.xn_tree.specs.Leaf.{IsRowOf, cross_value, crosses_from, each_pair, pair_term, pair_weight, turns_sum}
 
 -- ---- sums over pairs
@@ -230,7 +229,7 @@ module _ (g : Graph) (rows : List Row) (d : ℕ) (v : Values) where
 
 -- the least of a sum of what the pairs give and what the orders give
 pub bound_of_both : (g : Graph) (rows : List Row) (s : State) (d : ℕ) (parts : List (ℕ × ℕ)) → AllByRecursion (λ p. IsRowOf g (row_at rows p.0)) parts → (a b r : ℤ) →
-    IsLeast s (crosses_from g rows parts d 0) a → IsLeast s (turns_sum rows parts) b → r ≡ a +ℤ b → IsBound g rows s d parts r
+    IsLeastOver (InBox s) (crosses_from g rows parts d 0) a → IsLeastOver (InBox s) (turns_sum rows parts) b → r ≡ a +ℤ b → IsBound g rows s d parts r
 bound_of_both g rows s d parts each a b r crosses turns sum =
     let first = crosses.met.0 in
     let second = turns.met.0 in

@@ -9,7 +9,7 @@ use Rattle.xn_kinds.specs.Row.{Values, literal, orders_of, turns_value}
 use Rattle.xn_kinds.specs.State.{State}
 use Rattle.xn_kinds.specs.declared.rows.Row.{Row}
 use Rattle.xn_tree.specs.Given.{state_of}
-use Rattle.xn_tree.specs.Least.{Moves, Weighs, order_given, with_before, with_cross}
+use Rattle.xn_tree.specs.Least.{IsLesser, Moves, Weighs, order_given, with_before, with_cross}
 use Rattle.xn_tree.specs.declared.leaves.Leaf.{Leaf}
 
 -- the row has a list for each of its edges, and these are orders over edges of the graph
@@ -110,6 +110,13 @@ IsSmall n z = (z ≤ℤ pos (n * 2 ^ 85)) × ((pos 0 -ℤ pos (n * 2 ^ 85)) ≤�
 abbrev pub state_in : Leaf → State
 state_in leaf = state_of leaf.given.now
 
+-- r is the least of what the pair gives in the leaf, of those values that the state allows
+abbrev pub IsLeastOfPair : Leaf → ℕ → ℕ → ℤ → Type 0
+IsLeastOfPair leaf e f r =
+    let value = pair_value leaf.rows.now leaf.parts.now leaf.d e f in
+    IsLesser ((state_in leaf).decided e f) (value 0) (value 1) r
+
+-- what all pairs give in the leaf
 abbrev pub all_crosses : Leaf → Values → ℤ
 all_crosses leaf = crosses_from leaf.graph.now leaf.rows.now leaf.parts.now leaf.d 0
 

@@ -1,17 +1,13 @@
 -- The least of a number that values give, over the box of a state, variable by variable.
 use Rattle.std.specs.Prelude.{◌≡◌, ◌⊎◌, ℕ, ◌≤◌, ◌==◌, ◌&&◌, ℤ, pos, ◌+ℤ◌, ◌-ℤ◌, ◌≤ℤ◌, List, Bool, true, false, Option, Some, None, MatchOption, if◌then◌else◌}
 use Rattle.xn_model.specs.Lists.{has, one_if, stands_before}
+use Rattle.xn_kinds.specs.Bound.{IsLeastOver}
 use Rattle.xn_kinds.specs.Row.{Values}
 use Rattle.xn_kinds.specs.State.{State, InBox}
 
--- b is the least of f over the box of the state
-pub record IsLeast (s : State) (f : Values → ℤ) (b : ℤ) : Type 0 where
-  pub below_all : (v : Values) → InBox s v → b ≤ℤ f v
-  pub met : (v : Values) × InBox s v × (f v ≡ b)
-
 -- r leads from the least of f to the least of g
 abbrev pub Moves : State → (Values → ℤ) → (Values → ℤ) → ℤ → Type 0
-Moves s f g r = (b : ℤ) → IsLeast s f b → IsLeast s g (b +ℤ r)
+Moves s f g r = (b : ℤ) → IsLeastOver (InBox s) f b → IsLeastOver (InBox s) g (b +ℤ r)
 
 -- what a variable may be: the given value, or else 0 and 1
 abbrev pub Allows : Option Bool → ℕ → Type 0

@@ -2,8 +2,9 @@
 ghost use Rattle.std.specs.Prelude.{◌≡◌, ◌*◌, ◌<◌, ◌≤◌, ◌^◌, length};
 ghost use Rattle.std.specs.List.Sorted.{IsStrictlyIncreasing};
 ghost use Rattle.xn_model.specs.Lists.{one_if};
-ghost use Rattle.xn_tree.specs.Leaf.{AddsPair, AddsPairsOf, IsLeaf, IsSmall, all_crosses, pair_term, pair_value, pair_weight, state_in};
-ghost use Rattle.xn_tree.specs.Least.{IsLeast, IsLesser};
+ghost use Rattle.xn_kinds.specs.Bound.{IsLeastOver};
+ghost use Rattle.xn_kinds.specs.State.{InBox};
+ghost use Rattle.xn_tree.specs.Leaf.{AddsPair, AddsPairsOf, IsLeaf, IsLeastOfPair, IsSmall, all_crosses, pair_term, pair_weight, state_in};
 
 use crate::leasts::least_of;
 use crate::leaves::Leaf;
@@ -51,7 +52,7 @@ fn pair_least(leaf: &Leaf, e: u32, f: u32) -> i128
     requires leaf { IsLeaf leaf.now }
     requires rises { e < f }
     requires below { f < length leaf.now.graph.now.ends }
-    ensures least { let value = pair_value leaf.now.rows.now leaf.now.parts.now leaf.now.d e f in IsLesser ((state_in leaf.now).decided e f) (value 0) (value 1) result }
+    ensures least { IsLeastOfPair leaf.now e f result }
     ensures small { IsSmall 1 result }
 {
     let (zero, one) = pair_weights(leaf, e, f);
@@ -93,7 +94,7 @@ fn partners_least(leaf: &Leaf, e: u32) -> i128
 /// The least of what all pairs of edges give to the value of a leaf.
 pub fn crosses_least(leaf: &Leaf) -> i128
     requires { IsLeaf leaf.now }
-    ensures least { IsLeast (state_in leaf.now) (all_crosses leaf.now) result }
+    ensures least { IsLeastOver (InBox (state_in leaf.now)) (all_crosses leaf.now) result }
     ensures small { IsSmall 1000000 result }
 {
     let mut sum = 0;

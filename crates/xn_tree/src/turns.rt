@@ -3,10 +3,11 @@ ghost use Rattle.std.specs.Prelude.{◌≡◌, ◌≢◌, ◌==◌, ◌&&◌, �
 ghost use Rattle.std.specs.List.{IsDistinct};
 ghost use Rattle.std.specs.List.Sorted.{IsStrictlyIncreasing};
 ghost use Rattle.xn_model.specs.Lists.{one_if};
-ghost use Rattle.xn_kinds.specs.Bound.{row_at};
+ghost use Rattle.xn_kinds.specs.Bound.{row_at, IsLeastOver};
 ghost use Rattle.xn_kinds.specs.Row.{orders_of};
+ghost use Rattle.xn_kinds.specs.State.{InBox};
 ghost use Rattle.xn_tree.specs.Leaf.{AddsOrder, AddsRow, AddsTurn, AddsTurns, IsLeaf, IsRowOf, IsSmall, meets, state_in, turn_term, turn_weight, turns_sum};
-ghost use Rattle.xn_tree.specs.Least.{IsLeast, order_given};
+ghost use Rattle.xn_tree.specs.Least.{order_given};
 
 use crate::leasts::least_change;
 use crate::leaves::Leaf;
@@ -147,7 +148,7 @@ fn row_change(leaf: &Leaf, before: usize, m: u64, row: &Row) -> i128
 /// The least of what the orders of the rows give to the value of a leaf.
 pub fn turns_least(leaf: &Leaf) -> i128
     requires { IsLeaf leaf.now }
-    ensures least { IsLeast (state_in leaf.now) (turns_sum leaf.now.rows.now leaf.now.parts.now) result }
+    ensures least { IsLeastOver (InBox (state_in leaf.now)) (turns_sum leaf.now.rows.now leaf.now.parts.now) result }
     ensures small { IsSmall (2 ^ 41) result }
 {
     let mut sum = 0;

@@ -1,9 +1,12 @@
-ghost use Rattle.std.specs.Prelude.{◌≡◌, ◌↔◌, ◌<◌, ℕ, false, List, [], ◌∷◌, Bool, IfOk, IsTrue, MatchBool, MatchResult, OnErr, length, reverse};
+ghost use Rattle.std.specs.Prelude.{◌≡◌, ◌↔◌, ◌<◌, ℕ, false, List, [], ◌∷◌, Bool, IfOk, IsTrue, OnErr, length, reverse};
 ghost use Rattle.xn_model.specs.Lists.{has};
 ghost use Rattle.xn_kinds.specs.State.{State, Crosses, empty_state};
 ghost use Rattle.xn_kinds.specs.declared.trees.Node.TheVariants.{Pair, Place};
 ghost use Rattle.xn_tree.specs.Given.{state_of};
-ghost use Rattle.xn_tree.specs.Walk.{Fits, FitsFirst, IsPath, after, owed, pending_at, pending_of};
+ghost use Rattle.xn_kinds.specs.Tree.{Fits};
+ghost use Rattle.xn_tree.specs.Walk.{GoesOn, IsPath, Opened, owed, pending_at, pending_of};
+ghost use Rattle.xn_tree.specs.declared.walks.Choice.{Choice};
+ghost use Rattle.xn_tree.specs.declared.walks.Choice.TheVariants.{Decided, Placed};
 
 use crate::states::Given;
 use std::alloc::{AllocError, Global};
@@ -77,11 +80,7 @@ impl TreeWalk {
     /// is as before.
     pub fn open(&mut self, node: &Node) -> Result<bool, AllocError>
         ensures graph { self.new.graph ≡ self.old.graph }
-        ensures opened { let fits = FitsFirst self.old.graph (pending_of self.old) node.now in
-            MatchResult result
-            (λ yes. MatchBool yes (fits × (pending_of self.new ≡ after (pending_of self.old) node.now))
-            ((¬ fits) × (self.new ≡ self.old)))
-            (λ _. self.new ≡ self.old) }
+        ensures opened { Opened self.old self.new node.now result }
     {
         if self.is_finished() {
             return Ok(false);
@@ -100,11 +99,7 @@ impl TreeWalk {
     fn open_pair(&mut self, e: u32, f: u32) -> Result<bool, AllocError>
         requires { IsTrue self.old.live }
         ensures graph { self.new.graph ≡ self.old.graph }
-        ensures opened { let fits = FitsFirst self.old.graph (pending_of self.old) (Pair e f) in
-            MatchResult result
-            (λ yes. MatchBool yes (fits × (pending_of self.new ≡ after (pending_of self.old) (Pair e f)))
-            ((¬ fits) × (self.new ≡ self.old)))
-            (λ _. self.new ≡ self.old) }
+        ensures opened { Opened self.old self.new (Pair e f) result }
     {
         if !may_decide(&self.given, e, f) {
             return Ok(false);
@@ -119,11 +114,7 @@ impl TreeWalk {
     fn open_place(&mut self, e: u32, f: u32) -> Result<bool, AllocError>
         requires { IsTrue self.old.live }
         ensures graph { self.new.graph ≡ self.old.graph }
-        ensures opened { let fits = FitsFirst self.old.graph (pending_of self.old) (Place e f) in
-            MatchResult result
-            (λ yes. MatchBool yes (fits × (pending_of self.new ≡ after (pending_of self.old) (Place e f)))
-            ((¬ fits) × (self.new ≡ self.old)))
-            (λ _. self.new ≡ self.old) }
+        ensures opened { Opened self.old self.new (Place e f) result }
     {
         if !may_place(&self.given, e, f) {
             return Ok(false);
@@ -184,25 +175,51 @@ fn go_on(given: &mut Given, path: &mut Vec<Choice>) -> bool
     ensures pending { pending_at result (reverse path.new.items) ≡ owed (reverse path.old.items) }
 {
     while let Some(choice) = path.pop() {
-        match choice {
-            Choice::Decided(e, f, one) => {
-                given.undecide(e, f);
-                if !one {
-                    given.decide(e, f, true);
-                    path.push_reserved(Choice::Decided(e, f, true));
-                    return true;
-                }
-            }
-            Choice::Placed(e, f, at) => {
-                let count = places(given, e);
-                if at + 1 < count {
-                    given.shift(e, at);
-                    path.push_reserved(Choice::Placed(e, f, at + 1));
-                    return true;
-                }
-                given.unplace(e, at);
-            }
+        if let Some(next) = take_back(given, choice) {
+            path.push_reserved(next);
+            return true;
         }
     }
     false
+}
+
+// Takes back the last choice of the path, and makes the next at its node, if there is one.
+fn take_back(given: &mut Given, last: Choice) -> Option<Choice>
+    requires { (rest : List Choice) × IsPath given.old.graph (state_of given.old) (last ∷ rest) }
+    ensures graph { given.new.graph ≡ given.old.graph }
+    ensures path { GoesOn given.old given.new last result }
+{
+    match last {
+        Choice::Decided(e, f, one) => back_from_pair(given, e, f, one),
+        Choice::Placed(e, f, at) => back_from_place(given, e, f, at),
+    }
+}
+
+// The same of a decided pair: after 0 comes 1.
+fn back_from_pair(given: &mut Given, e: u32, f: u32, one: bool) -> Option<Choice>
+    requires { (rest : List Choice) × IsPath given.old.graph (state_of given.old) (Decided e f one ∷ rest) }
+    ensures graph { given.new.graph ≡ given.old.graph }
+    ensures path { GoesOn given.old given.new (Decided e f one) result }
+{
+    given.undecide(e, f);
+    if one {
+        return None;
+    }
+    given.decide(e, f, true);
+    Some(Choice::Decided(e, f, true))
+}
+
+// The same of a placed edge: after each position comes the next, up to the last.
+fn back_from_place(given: &mut Given, e: u32, f: u32, at: u32) -> Option<Choice>
+    requires { (rest : List Choice) × IsPath given.old.graph (state_of given.old) (Placed e f at ∷ rest) }
+    ensures graph { given.new.graph ≡ given.old.graph }
+    ensures path { GoesOn given.old given.new (Placed e f at) result }
+{
+    let count = places(given, e);
+    if at + 1 == count {
+        given.unplace(e, at);
+        return None;
+    }
+    given.shift(e, at);
+    Some(Choice::Placed(e, f, at + 1))
 }

@@ -1,10 +1,9 @@
 use Rattle.std.proofs.Common.{arith, rules, ◌≡◌, List, ◌∷◌, Bool, ap, false, true, subst, ◌∙◌, ◌≤ℤ◌, FitsSigned}
 use Rattle.std.specs.Int.{w128}
 use Rattle.std.proofs.lemmas.Int.{ints, to_z-of_z}
-use Rattle.xn_kinds.specs.Bound.{leaf_value}
+use Rattle.xn_kinds.specs.Bound.{leaf_value, IsLeastOver}
 use Rattle.xn_kinds.specs.declared.trees.Var.{Var}
-use Rattle.xn_brute.specs.Bound.{IsLeast}
-use Rattle.xn_brute.specs.Known.{known_in, state_of}
+use Rattle.xn_brute.specs.Known.{known_in, state_of, FitsKnown}
 use Rattle.xn_brute.proofs.Least.{least_at_one, least_at_zero, least_of_all}
 use Rattle.xn_brute.proofs.Unknown.{tried_step, unknown_count, unknown_count-falls}
 use Rattle.xn_brute.proofs.bounds.+least.Goals as goal
@@ -45,10 +44,10 @@ returns-then-zero-one t c =
     let zero_fits : FitsSigned w128 zero = search rules in
     let one_fits : FitsSigned w128 one = search rules in
     let f = leaf_value c.args.leaf.now.graph.now c.args.leaf.now.rows.now c.args.leaf.now.d c.args.leaf.now.parts.now in
-    let at_zero : IsLeast (known_in s ((x, false) ∷ c.args.tried.now)) f zero =
-    subst (λ (list : List (Var × Bool)). IsLeast (known_in s list) f zero) (c.deref.ensures.value ∙ c.in_ok-with-in-Err.ensures) c.in_ok-zero-in-Err.ensures in
-    let at_one : IsLeast (known_in s ((x, true) ∷ c.args.tried.now)) f one =
-    subst (λ (list : List (Var × Bool)). IsLeast (known_in s list) f one) (c.deref-in-Err.ensures.value ∙ c.in_ok-with-in-Err-2.ensures) c.in_ok-one-in-Err.ensures in
+    let at_zero : IsLeastOver (FitsKnown (known_in s ((x, false) ∷ c.args.tried.now))) f zero =
+    subst (λ (list : List (Var × Bool)). IsLeastOver (FitsKnown (known_in s list)) f zero) (c.deref.ensures.value ∙ c.in_ok-with-in-Err.ensures) c.in_ok-zero-in-Err.ensures in
+    let at_one : IsLeastOver (FitsKnown (known_in s ((x, true) ∷ c.args.tried.now))) f one =
+    subst (λ (list : List (Var × Bool)). IsLeastOver (FitsKnown (known_in s list)) f one) (c.deref-in-Err.ensures.value ∙ c.in_ok-with-in-Err-2.ensures) c.in_ok-one-in-Err.ensures in
     let less : zero ≤ℤ one = grind (arith, ints, c.if-zero-one.true) in
     rw (to_z-of_z w128 zero zero_fits)
     (least_at_zero _ _ _ x (tried_step s c.args.tried.now x false) (tried_step s c.args.tried.now x true) c.in-Err.ensures.unknown f zero one at_zero at_one less)
@@ -62,10 +61,10 @@ returns-else-zero-one t c =
     let zero_fits : FitsSigned w128 zero = search rules in
     let one_fits : FitsSigned w128 one = search rules in
     let f = leaf_value c.args.leaf.now.graph.now c.args.leaf.now.rows.now c.args.leaf.now.d c.args.leaf.now.parts.now in
-    let at_zero : IsLeast (known_in s ((x, false) ∷ c.args.tried.now)) f zero =
-    subst (λ (list : List (Var × Bool)). IsLeast (known_in s list) f zero) (c.deref.ensures.value ∙ c.in_ok-with-in-Err.ensures) c.in_ok-zero-in-Err.ensures in
-    let at_one : IsLeast (known_in s ((x, true) ∷ c.args.tried.now)) f one =
-    subst (λ (list : List (Var × Bool)). IsLeast (known_in s list) f one) (c.deref-in-Err.ensures.value ∙ c.in_ok-with-in-Err-2.ensures) c.in_ok-one-in-Err.ensures in
+    let at_zero : IsLeastOver (FitsKnown (known_in s ((x, false) ∷ c.args.tried.now))) f zero =
+    subst (λ (list : List (Var × Bool)). IsLeastOver (FitsKnown (known_in s list)) f zero) (c.deref.ensures.value ∙ c.in_ok-with-in-Err.ensures) c.in_ok-zero-in-Err.ensures in
+    let at_one : IsLeastOver (FitsKnown (known_in s ((x, true) ∷ c.args.tried.now))) f one =
+    subst (λ (list : List (Var × Bool)). IsLeastOver (FitsKnown (known_in s list)) f one) (c.deref-in-Err.ensures.value ∙ c.in_ok-with-in-Err-2.ensures) c.in_ok-one-in-Err.ensures in
     let less : one ≤ℤ zero = grind (arith, ints, c.if-zero-one.false) in
     rw (to_z-of_z w128 one one_fits)
     (least_at_one _ _ _ x (tried_step s c.args.tried.now x false) (tried_step s c.args.tried.now x true) c.in-Err.ensures.unknown f zero one at_zero at_one less)

@@ -1,6 +1,6 @@
 use Rattle.std.proofs.Common.{ℕ, ◌+◌, arith, ap, below_more, length, subst}
 use Rattle.xn_model.specs.Lists.{at}
-use Rattle.xn_draw.specs.Entries.{list_of}
+use Rattle.xn_orders.specs.Entries.{list_of}
 use Rattle.xn_draw.specs.Touches.{NoTouchIn, NoTouchOf}
 use Rattle.xn_draw.proofs.Totals.{first_of-is, total-take-le, total-take_more}
 use Rattle.xn_draw.proofs.touches.touch.Goals as goal

@@ -1,5 +1,5 @@
 use Rattle.xn_model.specs.Lists.{at}
-use Rattle.xn_draw.specs.Entries.{list_of}
+use Rattle.xn_orders.specs.Entries.{list_of}
 use Rattle.xn_draw.specs.Touches.{IsLeastTouch}
 use Rattle.xn_draw.proofs.touches.touched_by.Given as goal
 

@@ -3,7 +3,7 @@ use Rattle.xn_model.specs.Graph.{Graph, HasNoLoop}
 use Rattle.xn_model.specs.Orders.{order_at}
 use Rattle.xn_model.specs.Web.{web_of}
 use Rattle.xn_kinds.specs.Row.{orders_of}
-use Rattle.xn_rows.proofs.LoopFree.{no_loop}
+use Rattle.xn_orders.proofs.LoopFree.{no_loop}
 use Rattle.xn_rows.proofs.holding.row_holds.Goals as goal
 
 pub check_evidence-requires-clause-no_loop : goal.check_evidence-requires-clause-no_loop

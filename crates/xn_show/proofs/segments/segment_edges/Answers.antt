@@ -1,8 +1,8 @@
 use Rattle.std.proofs.Common.{◌≡◌, length, sym, ap, ◌∙◌, arith}
 use Rattle.std.specs.List.{range_with_len}
 use Rattle.xn_model.specs.Graph.{edges_of}
-use Rattle.xn_draw.specs.Entries.{list_of}
-use Rattle.xn_draw.proofs.Totals.{order_of-same}
+use Rattle.xn_orders.specs.Entries.{list_of}
+use Rattle.xn_orders.proofs.AllEdges.{order_of-same}
 use Rattle.xn_show.specs.Text.{segment_edges}
 use Rattle.xn_show.proofs.Owners.{edges_more}
 use Rattle.xn_show.proofs.segments.segment_edges.Goals as goal

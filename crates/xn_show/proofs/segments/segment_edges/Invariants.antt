@@ -1,6 +1,6 @@
 use Rattle.std.proofs.Common.{◌≡◌}
 use Rattle.std.specs.List.{range_with_len}
-use Rattle.xn_draw.specs.Entries.{list_of}
+use Rattle.xn_orders.specs.Entries.{list_of}
 use Rattle.xn_show.specs.Text.{segment_edges}
 use Rattle.xn_show.proofs.segments.segment_edges.Given as goal
 

@@ -2,8 +2,9 @@ use Rattle.std.proofs.Common.{◌≡◌, ◌+◌, ◌<◌, ◌≤◌, length, ap
 use Rattle.std.specs.Prelude.{pos, ◌+ℤ◌}
 use Rattle.std.proofs.lemmas.Int.{ints}
 use Rattle.xn_kinds.specs.Row.{Values}
+use Rattle.xn_kinds.specs.Bound.{IsLeastOver}
+use Rattle.xn_kinds.specs.State.{InBox}
 use Rattle.xn_tree.specs.Leaf.{all_crosses, cross_value, crosses_from, crosses_with, each_pair, state_in}
-use Rattle.xn_tree.specs.Least.{IsLeast}
 use Rattle.xn_tree.proofs.Least.{least_of_one, moves_join, moves_same}
 use Rattle.xn_tree.proofs.Pairs.{crosses_from-first, crosses_from-ignores, edges_from-none}
 use Rattle.xn_tree.proofs.crossings.crosses_least.Goals as goal
@@ -32,4 +33,4 @@ returns-clause-least c =
     let past : length leaf.graph.now.ends ≤ e = omega (arith, c.edges-e-end.ensures.value) in
     let none : (v : Values) → from e v ≡ pos 0 = λ v. ap (each_pair (cross_value leaf.graph.now leaf.rows.now leaf.parts.now leaf.d v)) (edges_from-none leaf.graph.now e past) in
     let least = c.loop-e.invariant.least (pos 0) (least_of_one (state_in leaf) (from e) (pos 0) none) in
-    subst (IsLeast (state_in leaf) (all_crosses leaf)) (omega (arith, ints)) least
+    subst (IsLeastOver (InBox (state_in leaf)) (all_crosses leaf)) (omega (arith, ints)) least

@@ -2,10 +2,10 @@ use Rattle.std.proofs.Common.{◌≡◌, ◌+◌, ◌*◌, ◌<◌, ◌∙◌, [
 use Rattle.std.specs.Prelude.{pos, ◌+ℤ◌, ◌-ℤ◌}
 use Rattle.std.proofs.lemmas.Int.{ints}
 use Rattle.std.proofs.lemmas.List.{get_or_default}
-use Rattle.xn_kinds.specs.Bound.{row_at}
+use Rattle.xn_kinds.specs.Bound.{row_at, IsLeastOver}
 use Rattle.xn_kinds.specs.Row.{Values, turns_value}
+use Rattle.xn_kinds.specs.State.{InBox}
 use Rattle.xn_tree.specs.Leaf.{state_in, turns_sum}
-use Rattle.xn_tree.specs.Least.{IsLeast}
 use Rattle.xn_tree.proofs.Additions.{least_shift, turns_of-more}
 use Rattle.xn_tree.proofs.Least.{least_of_one}
 use Rattle.xn_tree.proofs.turns.turns_least.Goals as goal
@@ -34,5 +34,5 @@ loop-i-preserved c =
     (λ v. turns_of-more rows parts i v low ∙ ap (λ r. (turns_sum rows (take i parts) v -ℤ pos (p.1 * turns_value r v)) +ℤ pos p.1) row_is) moved in
     record {
       small = (omega (arith, ints, c.row_change-sum.ensures.small, c.from-sum.ensures), omega (arith, ints, c.row_change-sum.ensures.small, c.from-sum.ensures));
-      least = subst (IsLeast (state_in leaf) (turns_sum rows (take (i + 1) parts))) (omega (arith, ints, c.row_change-sum.ensures.small, c.from-sum.ensures)) all;
+      least = subst (IsLeastOver (InBox (state_in leaf)) (turns_sum rows (take (i + 1) parts))) (omega (arith, ints, c.row_change-sum.ensures.small, c.from-sum.ensures)) all;
     }

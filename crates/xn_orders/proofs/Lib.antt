@@ -1,0 +1,13 @@
+pub mod AllEdges
+pub mod CrossingLists
+pub mod Entered
+pub mod First
+pub mod Flawed
+pub mod Found
+pub mod Limits
+pub mod Listed
+pub mod LoopFree
+pub mod Marked
+pub mod Numbered
+pub mod PairOrder
+pub mod Rising

@@ -1,0 +1,4 @@
+pub mod Crossed
+pub mod Entries
+pub mod Laws
+pub mod Pairs
