@@ -1,0 +1,10 @@
+pub mod Arcs
+pub mod Classes
+pub mod Climbs
+pub mod CycleRounds
+pub mod Members
+pub mod Neighbours
+pub mod NodeClasses
+pub mod Paths
+pub mod Rounds
+pub mod Step

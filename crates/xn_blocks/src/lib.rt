@@ -1,0 +1,4 @@
+//! The blocks of a web: the classes of segments by common cycles.
+#![tactic(auto)]
+
+pub mod laws;
