@@ -2,6 +2,7 @@ pub mod Arcs
 pub mod Classes
 pub mod Climbs
 pub mod CycleRounds
+pub mod Growing
 pub mod Members
 pub mod Neighbours
 pub mod NodeClasses
