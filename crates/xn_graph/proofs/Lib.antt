@@ -1,3 +1,5 @@
+pub mod DartsOf
 pub mod Ends
 pub mod Pairs
 pub mod Refused
+pub mod StarArrays

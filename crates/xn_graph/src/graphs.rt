@@ -95,6 +95,13 @@ impl Graph {
         self.ends[e as usize]
     }
 
+    /// The numbers of the edges, rising. It fails only for want of memory.
+    pub fn all_edges(&self, alloc: Global) -> Result<Vec<u32>, AllocError>
+        ensures { IfOk result (λ edges. edges.items ≡ edges_of self.now) }
+    {
+        (0..self.edges()).collect(alloc)
+    }
+
     /// Whether the edges share no end, and so are two.
     pub fn independent(&self, e: u32, f: u32) -> bool
         requires e_in { e < length self.now.ends }

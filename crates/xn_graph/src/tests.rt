@@ -48,6 +48,22 @@ fn copies_are_made(rt: HostRuntime) -> Result<(), Fail> {
 }
 
 #[test]
+fn lists_of_edges_and_darts_are_made(rt: HostRuntime) -> Result<(), Fail> {
+    let triangle = graph(rt.alloc(), 3, &[(0, 1), (1, 2), (2, 0)])?;
+    assert_eq!(rt;
+        triangle.all_edges(rt.alloc())?.as_slice(),
+        [0, 1, 2].as_slice()
+    );
+    let web = Web::make(3, Vec::from_slice(rt.alloc(), &[(1, 0), (1, 1)])?)?;
+    let stars = Stars::of(rt.alloc(), &web)?;
+    assert!(rt; stars.nodes() == 3);
+    assert_eq!(rt; stars.at(0), [1].as_slice());
+    assert_eq!(rt; stars.at(1), [0, 2, 3].as_slice());
+    assert_eq!(rt; stars.at(2).len(), 0);
+    Ok(())
+}
+
+#[test]
 fn refusals_have_texts(rt: HostRuntime) -> Result<(), Fail> {
     let rows = [
         (GraphErr::TooManyNodes, "more than 1000 nodes"),

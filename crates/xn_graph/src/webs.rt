@@ -1,6 +1,7 @@
-ghost use Rattle.std.specs.Prelude.{◌≡◌, ◌+◌, ◌-◌, ◌^◌, ◌<◌, ◌≤◌, ◌↔◌, [], ◌∷◌, ◌++◌, IfOk, IsErrOf, IfNone, IfSome, OkIff, OnErr, OnOk, length, set};
+ghost use Rattle.std.specs.Prelude.{◌≡◌, ◌+◌, ◌-◌, ◌*◌, ◌^◌, ◌<◌, ◌≤◌, ◌↔◌, [], ◌∷◌, ◌++◌, IfOk, IsErrOf, IfNone, IfSome, OkIff, OnErr, OnOk, length, set};
 ghost use Rattle.std.specs.List.{swap_remove};
 ghost use Rattle.xn_model.specs.Graph.{EndsIn, ends_at};
+ghost use Rattle.xn_model.specs.Map.{tail_of};
 ghost use Rattle.xn_graph.specs.Limits.{IsLimitedWeb, HasNodes, graph_of};
 ghost use Rattle.xn_graph.specs.Refusals.{IsRefusedWeb};
 ghost use Rattle.xn_graph.specs.declared.webs.WebErr.{WebErr};
@@ -82,6 +83,16 @@ impl Web {
         ensures nodes { HasNodes self.now.nodes result }
     {
         self.ends[s as usize]
+    }
+
+    /// The node of a dart: segment s has the dart 2s at its first end and 2s + 1 at its second.
+    pub fn tail(&self, d: u32) -> u32
+        requires { d < 2 * length self.now.ends }
+        ensures value { result ≡ tail_of self.now.ends d }
+        ensures node { result < self.now.nodes }
+    {
+        let (first, second) = self.end(d / 2);
+        if d % 2 == 0 { first } else { second }
     }
 
     /// The same web again. It fails only for want of memory.

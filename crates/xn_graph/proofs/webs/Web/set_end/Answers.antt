@@ -1,4 +1,4 @@
-use Rattle.std.proofs.Common.{ap, arith, length, length-set, set}
+use Rattle.std.proofs.Common.{ap, arith, length-set}
 use Rattle.xn_graph.proofs.Ends.{EndsIn-set}
 use Rattle.xn_graph.proofs.webs.Web.set_end.Goals as goal
 
