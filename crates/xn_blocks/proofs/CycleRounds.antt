@@ -12,7 +12,7 @@ use Rattle.xn_blocks.proofs.Paths.{trail, IsPath}
 use Rattle.xn_blocks.proofs.Arcs.{Uses, end_apart, head, none_distinct, one_distinct, start_in, tails, tails_in, trail_cases}
 use Rattle.xn_blocks.proofs.Rounds.{dart_nodes}
 use Rattle.xn_blocks.proofs.Step.{IsRound, OnRound}
-use Rattle.xn_blocks.proofs.Classes.{rounds_join}
+use Rattle.xn_blocks.proofs.AlongCycles.{rounds_join}
 
 -- ---- darts and segments
 

@@ -14,7 +14,7 @@ use Rattle.xn_blocks.proofs.Members.{In, in_here, in_later}
 use Rattle.xn_blocks.proofs.Paths.{trail}
 use Rattle.xn_blocks.proofs.Arcs.{head, start_in}
 use Rattle.xn_blocks.proofs.Neighbours.{AreNeighbours}
-use Rattle.xn_blocks.proofs.Classes.{carried}
+use Rattle.xn_blocks.proofs.AlongCycles.{carried}
 use Rattle.xn_blocks.proofs.CycleRounds.{in_one_block_sym, in_one_block_trans, no_dart_loops, reverse_half, round_of_shared}
 use Rattle.xn_blocks.proofs.Climbs.{GoesRound, above_in, above_less, above_most, both_above, child_towards, climb, decide_above, first_step, goes_along, goes_back, goes_on, in_block_at}
 

@@ -1,6 +1,6 @@
 -- A forest of a search in depth as it grows, over the lists that hold it.
 use Rattle.std.specs.Prelude.{◌≡◌, ◌≢◌, ℕ, zero, suc, ◌+◌, ◌-◌, ◌*◌, ◌<◌, ◌≤◌, ◌⊎◌, Option, Some, None, List, [], ◌∷◌, ◌++◌, length, set}
-use Rattle.xn_model.specs.Graph.{Graph}
+use Rattle.xn_model.specs.Graph.{EndsIn, Graph}
 use Rattle.xn_model.specs.Lists.{at}
 use Rattle.xn_model.specs.Map.{reverse_of, tail_of}
 use Rattle.xn_graph.specs.Stars.{darts_of}
@@ -111,6 +111,7 @@ pub record HasNone (web : Graph) (s : Lists) : Type 0 where
 
 -- the search has come to its end
 pub record IsWhole (web : Graph) (s : Lists) : Type 0 where
+  pub ends_in : EndsIn web.nodes web.ends
   pub found : AreFound web s
   pub done : AllDone web s
   pub all : (v : ℕ) → v < web.nodes → IsFound web s v

@@ -1,5 +1,11 @@
-//! The blocks of a web: the classes of segments by common cycles.
+//! The blocks of a web: the classes of its segments by common cycles.
 #![tactic(auto)]
 
+mod block_list;
+mod classes;
+mod cuts;
 mod forest;
 pub mod laws;
+mod parts;
+
+pub use block_list::{BlockList, blocks};
