@@ -76,7 +76,7 @@ module _ (P : ℕ → Type 0) where
   }
 
   pub lists_yes : (n : ℕ) (list : List ℕ) → ListsAll n P list → P n → ListsAll (n + 1) P (list ++ n ∷ [])
-  lists_yes n list all yes =
+  lists_yes n list all holds =
       let old_or_new : (v : ℕ) → In v (list ++ n ∷ []) → In v list ⊎ (v ≡ n) = λ v there. elim (in_parts v list (n ∷ []) there) [
             | inl front ↦ inl front
             | inr back ↦ elim (in_cases v n [] back) [ | inl here ↦ inr here | inr none ↦ absurd (in_none v none) ]
@@ -85,7 +85,7 @@ module _ (P : ℕ → Type 0) where
         rise = rise_more list n all.rise all.within;
         within = λ v there. elim (old_or_new v there) [ | inl old ↦ omega (arith, all.within v old) | inr new ↦ omega (arith, new) ];
         exactly = λ v v_in. elim (cases_eq v n) [
-          | inl same ↦ ((λ there. subst P (sym same) yes), (λ so. in_back v list (n ∷ []) (in_here v n [] same)))
+          | inl same ↦ ((λ there. subst P (sym same) holds), (λ so. in_back v list (n ∷ []) (in_here v n [] same)))
           | inr apart ↦
             let old = all.exactly v (omega (arith, v_in, apart)) in
             ((λ there. elim (old_or_new v there) [ | inl front ↦ old.0 front | inr new ↦ absurd (apart new) ]), (λ so. in_front v list (n ∷ []) (old.1 so)))
@@ -93,11 +93,11 @@ module _ (P : ℕ → Type 0) where
       }
 
   pub lists_no : (n : ℕ) (list : List ℕ) → ListsAll n P list → (P n → ⊥) → ListsAll (n + 1) P list
-  lists_no n list all no = record {
+  lists_no n list all fails = record {
     rise = all.rise;
     within = λ v there. omega (arith, all.within v there);
     exactly = λ v v_in. elim (cases_eq v n) [
-      | inl same ↦ ((λ there. absurd (omega (arith, all.within v there, same))), (λ so. absurd (no (subst P same so))))
+      | inl same ↦ ((λ there. absurd (omega (arith, all.within v there, same))), (λ so. absurd (fails (subst P same so))))
       | inr apart ↦ all.exactly v (omega (arith, v_in, apart))
     ]
   }
