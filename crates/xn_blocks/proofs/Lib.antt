@@ -1,0 +1,14 @@
+pub mod AlongCycles
+pub mod Arcs
+pub mod Climbs
+pub mod CutNodes
+pub mod CycleRounds
+pub mod Growing
+pub mod LowPoints
+pub mod Members
+pub mod Neighbours
+pub mod NodeClasses
+pub mod Parting
+pub mod Paths
+pub mod Rounds
+pub mod Step

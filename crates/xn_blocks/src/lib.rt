@@ -1,0 +1,11 @@
+//! The blocks of a web: the classes of its segments by common cycles.
+#![tactic(auto)]
+
+mod block_list;
+mod classes;
+mod cuts;
+mod forest;
+pub mod laws;
+mod parts;
+
+pub use block_list::{BlockList, blocks};
