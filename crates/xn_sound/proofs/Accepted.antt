@@ -11,7 +11,7 @@ use Rattle.xn_kinds.specs.State.{empty_state}
 pub accepted_proofs_bound : RowsAreMet → TreesProve → AllLieInEmpty → AcceptedProofsBound
 accepted_proofs_bound met prove lie g k rows nodes is_graph accepts c drawing =
     subst (λ n. k ≤ n) drawing.3
-      (prove g k rows empty_state nodes (λ i d i_in. met g _ is_graph (accepts.rows_hold i d i_in)) accepts.tree drawing.0 drawing.1 drawing.2 (lie drawing.0))
+    (prove g k rows empty_state nodes (λ i d i_in. met g _ is_graph (accepts.rows_hold i d i_in)) accepts.tree drawing.0 drawing.1 drawing.2 (lie drawing.0))
 
 -- ---- the examples
 
