@@ -58,12 +58,7 @@ fn check_lists(
 }
 
 // The map of the planarised graph with the turns of the drawing.
-fn map_of(
-    alloc: Global,
-    graph: &Graph,
-    edges: &[u32],
-    drawing: &Drawing,
-) -> Result<Map, DrawErr>
+fn map_of(alloc: Global, graph: &Graph, edges: &[u32], drawing: &Drawing) -> Result<Map, DrawErr>
     requires edges { edges.now ≡ edges_of graph.now }
     requires orders { HasOrders graph.now drawing.now.orders drawing.now.next }
     ensures map { let d = drawing.now in

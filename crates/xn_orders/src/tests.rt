@@ -88,6 +88,9 @@ fn first_flaws_of_lists(rt: HostRuntime) -> Result<(), Fail> {
     assert_eq!(rt; flaw_of(alloc, &[(0, 9), (9, 0)])?, None);
     assert_eq!(rt; flaw_of(alloc, &[(0, 9)])?, Some(OrdersFlaw::Stray(0, 9)));
     assert_eq!(rt; flaw_of(alloc, &[(0, 10)])?, Some(OrdersFlaw::Stray(0, 10)));
-    assert_eq!(rt; flaw_of(alloc, &[(0, 0)])?, Some(OrdersFlaw::Dependent(0, 0)));
+    assert_eq!(rt;
+        flaw_of(alloc, &[(0, 0)])?,
+        Some(OrdersFlaw::Dependent(0, 0))
+    );
     Ok(())
 }
