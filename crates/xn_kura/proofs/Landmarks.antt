@@ -1,5 +1,5 @@
 -- K5 and K3,3: no flat map, and the crossing number of K5.
-use Rattle.std.proofs.Common.{ℕ, ◌<◌, ◌⊎◌, inl, inr, List, [], ◌∷◌, refl, arith, rules}
+use Rattle.std.proofs.Common.{ℕ, ◌<◌, ◌⊎◌, ◌∙◌, inl, inr, List, [], ◌∷◌, refl, arith, rules}
 use Rattle.std.specs.Cmp.{nat_eq_equiv}
 use Rattle.std.proofs.lemmas.Bool.{cases_eq}
 use Rattle.std.proofs.lemmas.List.Elements.{All-from_recursion}
@@ -9,7 +9,6 @@ use Rattle.xn_model.specs.Evidence.{IsFive, IsThreeThree}
 use Rattle.xn_model.specs.Examples.{k33, k5}
 use Rattle.xn_model.specs.Graph.{Graph}
 use Rattle.xn_model.specs.Map.{IsFlat}
-use Rattle.xn_model.specs.Orders.{crossing_count}
 use Rattle.xn_model.proofs.Examples.{k5_with_one_crossing}
 use Rattle.xn_kura.proofs.CrossingFree.{flat_where_none_cross}
 use Rattle.xn_kura.proofs.Excludes.{no_flat_five, no_flat_three_three}
