@@ -2,7 +2,6 @@
 ghost use Rattle.std.specs.Prelude.{◌≡◌, IfOk, OnOk, None, [], replicate};
 ghost use Rattle.xn_extend.specs.Search.{AreEarlier};
 
-use crate::darts::tail;
 use std::alloc::{AllocError, Global};
 use xn_graph::Web;
 
@@ -27,7 +26,7 @@ fn push_earlier(
     ensures { OnOk result (AreEarlier web.now.ends earlier.new.items) }
 {
     for d in 0..2 * web.segments() {
-        let node = tail(web, d) as usize;
+        let node = web.tail(d) as usize;
         earlier.push(latest[node])?;
         latest[node] = Some(d);
     }

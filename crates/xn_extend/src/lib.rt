@@ -1,10 +1,8 @@
 //! Evidence by flat insertions: flat maps that grow by one segment after another, in the order of a list.
 #![tactic(auto)]
 
-mod darts;
 mod earlier;
 mod extending;
-mod faces;
 pub mod laws;
 mod lists;
 mod search;

@@ -5,9 +5,9 @@ ghost use Rattle.std.specs.List.{range_with_len};
 ghost use Rattle.xn_extend.specs.Search.{AreEarlier, Came, IsChoice, IsInFace, IsNextChoice, Leads};
 
 use crate::earlier::earlier_darts;
-use crate::faces::in_one_face;
 use std::alloc::{AllocError, Global};
 use xn_graph::Web;
+use xn_map::in_one_face;
 use xn_ring::Rings;
 
 /// Rings of all darts that come by flat insertions of the segments in their order, if there are any.

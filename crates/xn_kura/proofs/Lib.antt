@@ -15,7 +15,6 @@ mod Pairs
 mod Path
 mod Proposals
 pub mod Stages
-mod StubCounts
 mod Tally
 mod Tracing
 mod Turned

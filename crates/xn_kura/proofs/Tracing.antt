@@ -1,8 +1,8 @@
 -- A trace goes along the straight path that it begins.
-use Rattle.std.proofs.Common.{◌≡◌, ◌≢◌, ℕ, zero, suc, ◌+◌, ◌*◌, ◌/◌, ◌<◌, ◌≤◌, inl, inr, true, false, cond, eqb, get_or, take, drop, List, [], ◌∷◌, ◌++◌, length, refl, sym, ◌∙◌, ap, subst, arith}
+use Rattle.std.proofs.Common.{◌≡◌, ◌≢◌, ℕ, ◌+◌, ◌*◌, ◌/◌, ◌<◌, ◌≤◌, ◌||◌, ◌⊎◌, inl, inr, true, false, eqb, get_or, take, drop, List, [], ◌∷◌, ◌++◌, length, refl, sym, ◌∙◌, ap, subst, arith}
 use Rattle.std.specs.List.{IsDistinct}
 use Rattle.std.proofs.Math.ListN.{drop_of_length-le}
-use Rattle.std.proofs.lemmas.Bool.{cases_eq, cases_lt, both_ways, cond-false, cond-true, eqb-true, eq-eqb, ne_eqb, or_cases, or_left, or_right}
+use Rattle.std.proofs.lemmas.Bool.{cases_eq, cases_lt, both_ways, eqb-true, eq-eqb, or_cases, or_left, or_right}
 use Rattle.std.proofs.lemmas.List.{take_more, take_all}
 use Rattle.xn_model.specs.Evidence.{LeadsTo, far_end, inner_nodes}
 use Rattle.xn_model.specs.Graph.{Graph, ends_at, touches}
@@ -10,79 +10,69 @@ use Rattle.xn_model.specs.Lists.{at, has}
 use Rattle.xn_model.specs.Map.{reverse_of, tail_of}
 use Rattle.xn_kura.proofs.Distinct.{positions_apart}
 use Rattle.xn_kura.proofs.Path.{out, out_facts}
-use Rattle.xn_kura.proofs.StubCounts.{count-le}
-use Rattle.xn_kura.proofs.Tally.{distinct-le}
+use Rattle.xn_kura.proofs.Tally.{count-not, distinct-le}
 use Rattle.xn_kura.proofs.Walking.{inner_step, step}
-use Rattle.xn_kura.specs.Straight.{AreStubs, IsStraight, dart_from}
+use Rattle.xn_kura.specs.Straight.{IsStraight, dart_from}
 use Rattle.xn_model.specs.Loose.{dart_count}
-
--- an element that is there is the same by any default
-pub there : (xs : List ℕ) (i d : ℕ) → i < length xs → get_or xs i d ≡ at xs i
-there [] i d i_in = absurd (omega (arith, i_in))
-there (x ∷ xs) zero d i_in = refl
-there (x ∷ xs) (suc i) d i_in = there xs i d (omega (arith, i_in))
+use Rattle.xn_graph.specs.Stars.{darts_of}
+use Rattle.xn_graph.proofs.DartsOf.{darts_of-at, darts_of-has, length-darts_of}
 
 -- ---- the other dart
 
-module _ (web : Graph) (degree first last : List ℕ) (are : AreStubs web (2 * length web.ends) degree first last) (d : ℕ) (d_in : d < 2 * length web.ends) where
-  abbrev v : ℕ
-  v = tail_of web.ends d
+-- the darts at a node are as many as it has
+pub star_count : (web stars : Graph) (v : ℕ) (star : List ℕ) → stars ≡ web → star ≡ darts_of stars.ends v → length star ≡ dart_count web.ends v
+star_count web stars v star same is = ap length is ∙ ap (λ (g : Graph). length (darts_of g.ends v)) same ∙ length-darts_of web.ends v
 
-  abbrev other : ℕ
-  other = cond (eqb (at first v) d) (at last v) (at first v)
+pub star_two : (web stars : Graph) (v d : ℕ) (star : List ℕ) → stars ≡ web → v ≡ tail_of web.ends d → star ≡ darts_of stars.ends v → dart_count web.ends (tail_of web.ends d) ≡ 2 → length star ≡ 2
+star_two web stars v d star same v_is is two = star_count web stars v star same is ∙ ap (dart_count web.ends) v_is ∙ two
 
-  pub other_below : other < 2 * length web.ends
-  other_below =
-      let one = are.firsts d v d_in refl in
-      let two = are.lasts d v d_in refl in
-      elim (cases_eq (at first v) d) [
-        | inl same ↦ let is : other ≡ at last v = cond-true _ _ _ (eq-eqb _ _ same) in omega (arith, is, two.1)
-        | inr apart ↦ let is : other ≡ at first v = cond-false _ _ _ (ne_eqb _ _ apart) in omega (arith, is, one.0, d_in)
-      ]
+-- and each is a dart
+pub star_below : (web stars : Graph) (v : ℕ) (star : List ℕ) (k : ℕ) → stars ≡ web → star ≡ darts_of stars.ends v → k < length star → at star k < 2 * length web.ends
+star_below web stars v star k same is low =
+    let of : star ≡ darts_of web.ends v = is ∙ ap (λ (g : Graph). darts_of g.ends v) same in
+    let there = darts_of-at web.ends v k (omega (arith, low, ap length of)) in
+    omega (arith, there.0, ap (λ (l : List ℕ). at l k) of)
 
-  -- of two darts the one that is not d
-  pub other_is : (z : ℕ) → z < 2 * length web.ends → tail_of web.ends z ≡ v → z ≢ d → dart_count web.ends v ≡ 2 → other ≡ z
-  unfolding IsDistinct
-  other_is z z_in z_at apart two =
-      let f = at first v in
-      let l = at last v in
-      let fd = are.firsts d v d_in refl in
-      let fz = are.firsts z v z_in z_at in
-      let ld = are.lasts d v d_in refl in
-      let lz = are.lasts z v z_in z_at in
-      let p = λ (x : ℕ). eqb (tail_of web.ends x) v in
-      let P : ℕ → Type 0 = λ x. (x < 2 * length web.ends) × (p x ≡ true) in
-      let three : (x : ℕ) → x < 2 * length web.ends → tail_of web.ends x ≡ v → x ≢ d → x ≢ z → ⊥ = λ x x_in x_at one other.
-      let many = distinct-le (2 * length web.ends) p (x ∷ d ∷ z ∷ [])
-      ((ne_eqb x d one, (ne_eqb x z other, tt)), ((ne_eqb d z (λ e. apart (sym e)), tt), (tt, tt)))
-      (λ y h. elim (or_cases (eqb x y) _ h) [
-        | inl is ↦ subst P (eqb-true x y is) (x_in, eq-eqb _ _ x_at)
-        | inr more ↦ elim (or_cases (eqb d y) _ more) [
-          | inl is ↦ subst P (eqb-true d y is) (d_in, eq-eqb _ _ refl)
-          | inr rest ↦ elim (or_cases (eqb z y) false rest) [
-            | inl is ↦ subst P (eqb-true z y is) (z_in, eq-eqb _ _ z_at)
+-- of two elements the one that is not d
+other_of : (star : List ℕ) (d z : ℕ) → length star ≡ 2 → has star d ≡ true → has star z ≡ true → z ≢ d →
+    ((at star 0 ≡ d) × (at star 1 ≡ z)) ⊎ ((at star 0 ≢ d) × (at star 0 ≡ z))
+other_of [] d z two d_in z_in apart = absurd (omega (arith, two))
+other_of (a ∷ []) d z two d_in z_in apart = absurd (omega (arith, two))
+other_of (a ∷ b ∷ c ∷ xs) d z two d_in z_in apart = absurd (omega (arith, two))
+other_of (a ∷ b ∷ []) d z two d_in z_in apart = elim (cases_eq a d) [
+  | inl first ↦ inl (
+    first,
+    elim (or_cases (eqb a z) (eqb b z || false) z_in) [
+      | inl same ↦ absurd (apart (sym (eqb-true a z same) ∙ first))
+      | inr more ↦ elim (or_cases (eqb b z) false more) [ inl same ↦ eqb-true b z same | inr none ↦ absurd (both_ways false refl none) ]
+    ],
+  )
+  | inr other ↦ inr (
+    other,
+    elim (or_cases (eqb a z) (eqb b z || false) z_in) [
+      | inl same ↦ eqb-true a z same
+      | inr more ↦ elim (or_cases (eqb b z) false more) [
+        | inl same ↦ elim (or_cases (eqb a d) (eqb b d || false) d_in) [
+          | inl here ↦ absurd (other (eqb-true a d here))
+          | inr there ↦ elim (or_cases (eqb b d) false there) [
+            | inl here ↦ absurd (apart (sym (eqb-true b z same) ∙ eqb-true b d here))
             | inr none ↦ absurd (both_ways false refl none)
           ]
         ]
-      ]) in
-      omega (arith, many, two) in
-      elim (cases_eq f d) [
-        | inl same ↦
-            let is : other ≡ l = cond-true _ _ _ (eq-eqb _ _ same) in
-            elim (cases_eq l z) [
-              | inl here ↦ is ∙ here
-              | inr not_z ↦ elim (cases_eq l d) [
-                | inl at_d ↦ absurd (apart (omega (arith, fz.0, lz.0, same, at_d)))
-                | inr not_d ↦ absurd (three l ld.1 ld.2 not_d not_z)
-              ]
-            ]
-        | inr differ ↦
-            let is : other ≡ f = cond-false _ _ _ (ne_eqb _ _ differ) in
-            elim (cases_eq f z) [
-              | inl here ↦ is ∙ here
-              | inr not_z ↦ absurd (three f (omega (arith, fd.0, d_in)) fd.1 differ not_z)
-            ]
+        | inr none ↦ absurd (both_ways false refl none)
       ]
+    ],
+  )
+]
+
+pub other_at : (web stars : Graph) (v d z : ℕ) (star : List ℕ) → stars ≡ web → v ≡ tail_of web.ends d → star ≡ darts_of stars.ends v → dart_count web.ends (tail_of web.ends d) ≡ 2 →
+    d < 2 * length web.ends → z < 2 * length web.ends → tail_of web.ends z ≡ tail_of web.ends d → z ≢ d →
+    ((at star 0 ≡ d) × (at star 1 ≡ z)) ⊎ ((at star 0 ≢ d) × (at star 0 ≡ z))
+other_at web stars v d z star same v_is is two d_in z_in z_at apart =
+    let of : star ≡ darts_of web.ends (tail_of web.ends d) = is ∙ ap (λ (g : Graph). darts_of g.ends v) same ∙ ap (darts_of web.ends) v_is in
+    other_of star d z (ap length of ∙ length-darts_of web.ends (tail_of web.ends d) ∙ two)
+    (ap (λ (l : List ℕ). has l d) of ∙ darts_of-has web.ends (tail_of web.ends d) d d_in refl)
+    (ap (λ (l : List ℕ). has l z) of ∙ darts_of-has web.ends (tail_of web.ends d) z z_in z_at) apart
 
 -- ---- along the path
 
@@ -172,7 +162,7 @@ module _ (ends : List (ℕ × ℕ)) (path : List ℕ) (v k dart : ℕ) (done : L
 pub straight_short : (ends : List (ℕ × ℕ)) (u : ℕ) (path : List ℕ) (v : ℕ) → IsStraight ends u path v → length path ≤ length ends
 straight_short ends u path v straight =
     let few = distinct-le (length ends) (λ s. true) path straight.once (λ s s_in. (in_walk u v path straight.leads s s_in, refl)) in
-    omega (arith, few, count-le (length ends) (λ s. true))
+    omega (arith, few, count-not (length ends) (λ s. true))
   where
     in_walk : (u v : ℕ) (path : List ℕ) → LeadsTo ends u path v → (s : ℕ) → has path s ≡ true → s < length ends
     in_walk u v [] leads s h = absurd (both_ways false refl h)

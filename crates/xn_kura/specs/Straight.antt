@@ -1,28 +1,13 @@
 -- Paths that go straight on through nodes with two darts.
-use Rattle.std.specs.Prelude.{◌≡◌, ◌≢◌, ℕ, ◌+◌, ◌*◌, ◌<◌, ◌≤◌, ◌==◌, ◌∷◌, [], true, List, Option, Vec, None, Some, length, nat_eq, if◌then◌else◌}
+use Rattle.std.specs.Prelude.{◌≡◌, ◌≢◌, ℕ, ◌+◌, ◌*◌, ◌<◌, ◌==◌, ◌∷◌, [], true, List, Option, Vec, None, Some, length, nat_eq, if◌then◌else◌}
 use Rattle.std.specs.Global.{Global}
 use Rattle.std.specs.List.{IsDistinct}
 use Rattle.xn_model.specs.Evidence.{LeadsTo, inner_nodes}
-use Rattle.xn_model.specs.Graph.{Graph, ends_at}
-use Rattle.xn_model.specs.Lists.{at, has}
+use Rattle.xn_model.specs.Graph.{ends_at}
+use Rattle.xn_model.specs.Lists.{has}
 use Rattle.xn_model.specs.Loose.{dart_count}
 use Rattle.xn_model.specs.Map.{tail_of}
-use Rattle.xn_model.specs.Permutation.{count_below}
-use Rattle.xn_kura.specs.declared.stubs.Stubs.{Stubs}
 use Rattle.xn_kura.specs.declared.traces.Trace.{Trace}
-
--- this many of the first darts are at each node, and these are the first and the last of them
-pub record AreStubs (web : Graph) (darts : ℕ) (degree first last : List ℕ) : Type 0 where
-  pub degree_fits : length degree ≡ web.nodes
-  pub first_fits : length first ≡ web.nodes
-  pub last_fits : length last ≡ web.nodes
-  pub degrees : (v : ℕ) → v < web.nodes → at degree v ≡ count_below darts (λ d. tail_of web.ends d == v)
-  pub firsts : (d v : ℕ) → d < darts → tail_of web.ends d ≡ v → (at first v ≤ d) × (tail_of web.ends (at first v) ≡ v)
-  pub lasts : (d v : ℕ) → d < darts → tail_of web.ends d ≡ v → (d ≤ at last v) × (at last v < darts) × (tail_of web.ends (at last v) ≡ v)
-
--- all darts of the web are counted
-abbrev pub AreStubsOf : Graph → Stubs → Type 0
-AreStubsOf web stubs = AreStubs web (2 * length web.ends) stubs.degree.items stubs.first.items stubs.last.items
 
 -- the dart with which a path leaves u
 abbrev pub dart_from : List (ℕ × ℕ) → ℕ → List ℕ → ℕ

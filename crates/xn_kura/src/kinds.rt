@@ -4,14 +4,12 @@ ghost use Rattle.std.specs.List.{IsDistinct, concat};
 ghost use Rattle.xn_kinds.specs.Row.{EvidenceHolds};
 ghost use Rattle.xn_kura.specs.Flaws.{HasAKind, PairsWithin};
 ghost use Rattle.xn_kura.specs.Kinds.{AreNodesWith, ArePathsFor, AreSides, IsFoundFive, IsFoundIn, IsFoundThree, IsJudged, UsesAll, paths_of};
-ghost use Rattle.xn_kura.specs.Straight.{AreStubsOf};
 
 use crate::evidence::{FIVE_PAIRS, THREE_PAIRS, holds};
 use crate::marks::Marks;
-use crate::stubs::{Stubs, stubs_of};
 use crate::traces::path_between;
 use std::alloc::{AllocError, Global};
-use xn_graph::Web;
+use xn_graph::{Stars, Web};
 use xn_kinds::{Evidence, Paths};
 
 /// An evidence of either kind that holds for the web and uses each of its segments, if there is one.
@@ -20,57 +18,57 @@ use xn_kinds::{Evidence, Paths};
 pub fn find_kind(alloc: Global, web: &Web) -> Result<Option<Evidence>, AllocError>
     ensures { IfOk result (IsFoundIn web.now) }
 {
-    let stubs = stubs_of(alloc, web)?;
-    if let Some(five) = find_five(alloc, web, &stubs)? {
+    let stars = Stars::of(alloc, web)?;
+    if let Some(five) = find_five(alloc, web, &stars)? {
         return Ok(Some(five));
     }
-    find_three_three(alloc, web, &stubs)
+    find_three_three(alloc, web, &stars)
 }
 
 /// A Five that holds and uses each segment, if there is one.
-fn find_five(alloc: Global, web: &Web, stubs: &Stubs) -> Result<Option<Evidence>, AllocError>
-    requires stubs { AreStubsOf web.now stubs.now }
+fn find_five(alloc: Global, web: &Web, stars: &Stars) -> Result<Option<Evidence>, AllocError>
+    requires stars { stars.now ≡ web.now }
     ensures { IfOk result (IsFoundFive web.now) }
 {
-    let nodes = nodes_with(alloc, web, stubs, 4)?;
+    let nodes = nodes_with(alloc, web, stars, 4)?;
     if nodes.len() != 5 {
         return Ok(None);
     }
     let branch = [nodes[0], nodes[1], nodes[2], nodes[3], nodes[4]];
-    match paths_between(alloc, web, stubs, &FIVE_PAIRS, &branch)? {
+    match paths_between(alloc, web, stars, &FIVE_PAIRS, &branch)? {
         None => Ok(None),
         Some(paths) => judged(alloc, web, Evidence::Five { branch, paths }),
     }
 }
 
 /// A ThreeThree that holds and uses each segment, if there is one.
-fn find_three_three(alloc: Global, web: &Web, stubs: &Stubs) -> Result<Option<Evidence>, AllocError>
-    requires stubs { AreStubsOf web.now stubs.now }
+fn find_three_three(alloc: Global, web: &Web, stars: &Stars) -> Result<Option<Evidence>, AllocError>
+    requires stars { stars.now ≡ web.now }
     ensures { IfOk result (IsFoundThree web.now) }
 {
-    let nodes = nodes_with(alloc, web, stubs, 3)?;
+    let nodes = nodes_with(alloc, web, stars, 3)?;
     if nodes.len() != 6 {
         return Ok(None);
     }
-    let Sides { near, far } = sides_of(alloc, web, stubs, nodes.as_slice())?;
+    let Sides { near, far } = sides_of(alloc, web, stars, nodes.as_slice())?;
     if near.len() != 3 || far.len() != 3 {
         return Ok(None);
     }
     let branch = [near[0], near[1], near[2], far[0], far[1], far[2]];
-    match paths_between(alloc, web, stubs, &THREE_PAIRS, &branch)? {
+    match paths_between(alloc, web, stars, &THREE_PAIRS, &branch)? {
         None => Ok(None),
         Some(paths) => judged(alloc, web, Evidence::ThreeThree { branch, paths }),
     }
 }
 
 /// The nodes with this many darts, rising.
-fn nodes_with(alloc: Global, web: &Web, stubs: &Stubs, count: u32) -> Result<Vec<u32>, AllocError>
-    requires stubs { AreStubsOf web.now stubs.now }
+fn nodes_with(alloc: Global, web: &Web, stars: &Stars, count: usize) -> Result<Vec<u32>, AllocError>
+    requires stars { stars.now ≡ web.now }
     ensures { IfOk result (λ nodes. AreNodesWith web.now.ends web.now.nodes count nodes.items) }
 {
     let mut nodes = Vec::new(alloc);
     for v in 0..web.nodes() {
-        if stubs.degree[v as usize] == count {
+        if stars.at(v).len() == count {
             nodes.push(v)?;
         }
     }
@@ -85,8 +83,8 @@ struct Sides {
 }
 
 /// Parts nodes into those to which no straight path leads from the first of them, and those to which one leads.
-fn sides_of(alloc: Global, web: &Web, stubs: &Stubs, nodes: &[u32]) -> Result<Sides, AllocError>
-    requires stubs { AreStubsOf web.now stubs.now }
+fn sides_of(alloc: Global, web: &Web, stars: &Stars, nodes: &[u32]) -> Result<Sides, AllocError>
+    requires stars { stars.now ≡ web.now }
     requires some { 0 < length nodes.now }
     requires once { IsDistinct nat_eq nodes.now }
     ensures { IfOk result (λ sides. AreSides web.now.ends nodes.now sides.near.items sides.far.items) }
@@ -94,7 +92,7 @@ fn sides_of(alloc: Global, web: &Web, stubs: &Stubs, nodes: &[u32]) -> Result<Si
     let mut near = Vec::new(alloc);
     let mut far = Vec::new(alloc);
     for &v in nodes {
-        if path_between(alloc, web, stubs, nodes[0], v)?.is_some() {
+        if path_between(alloc, web, stars, nodes[0], v)?.is_some() {
             far.push(v)?;
         } else {
             near.push(v)?;
@@ -107,17 +105,17 @@ fn sides_of(alloc: Global, web: &Web, stubs: &Stubs, nodes: &[u32]) -> Result<Si
 fn paths_between(
     alloc: Global,
     web: &Web,
-    stubs: &Stubs,
+    stars: &Stars,
     pairs: &[(usize, usize)],
     nodes: &[u32],
 ) -> Result<Option<Paths>, AllocError>
-    requires stubs { AreStubsOf web.now stubs.now }
+    requires stars { stars.now ≡ web.now }
     requires pairs { PairsWithin (length nodes.now) pairs.now }
     ensures { IfOk result (ArePathsFor web.now.ends pairs.now nodes.now) }
 {
     let mut lists = Vec::new(alloc);
     for &(i, j) in pairs {
-        match path_between(alloc, web, stubs, nodes[i], nodes[j])? {
+        match path_between(alloc, web, stars, nodes[i], nodes[j])? {
             None => return Ok(None),
             Some(path) => lists.push(path)?,
         }

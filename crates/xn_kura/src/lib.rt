@@ -6,7 +6,6 @@ mod kinds;
 pub mod laws;
 mod marks;
 mod repeats;
-mod stubs;
 #[cfg(test)]
 mod tests;
 mod traces;

@@ -1,12 +1,11 @@
 // Paths that go straight on through nodes with two darts.
 ghost use Rattle.std.specs.Prelude.{◌≡◌, ◌≢◌, ℕ, ◌*◌, ◌<◌, IfOk, length};
 ghost use Rattle.xn_model.specs.Map.{tail_of};
-ghost use Rattle.xn_kura.specs.Straight.{AreStubsOf, IsStraight, IsStraightBetween, IsStraightBy, IsTraceOf, dart_from, path_in, trace_in};
+ghost use Rattle.xn_kura.specs.Straight.{IsStraight, IsStraightBetween, IsStraightBy, IsTraceOf, dart_from, path_in, trace_in};
 ghost use Rattle.xn_model.specs.Loose.{dart_count};
 
-use crate::stubs::{Stubs, tail};
 use std::alloc::{AllocError, Global};
-use xn_graph::Web;
+use xn_graph::{Stars, Web};
 
 /// A path, and the node at which it ends.
 #[derive(Drop)]
@@ -15,25 +14,21 @@ pub struct Trace {
     pub path: Vec<u32>,
 }
 
-/// The other dart at the node of a dart, where it has two.
-fn other_dart(web: &Web, stubs: &Stubs, d: u32) -> u32
-    requires stubs { AreStubsOf web.now stubs.now }
+/// The other dart at the node of a dart, which has two.
+fn other_dart(web: &Web, stars: &Stars, d: u32) -> u32
+    requires stars { stars.now ≡ web.now }
     requires dart { d < 2 * length web.now.ends }
+    requires two { dart_count web.now.ends (tail_of web.now.ends d) ≡ 2 }
     ensures below { result < 2 * length web.now.ends }
-    ensures other { (z : ℕ) → z < 2 * length web.now.ends → tail_of web.now.ends z ≡ tail_of web.now.ends d → z ≢ d →
-        dart_count web.now.ends (tail_of web.now.ends d) ≡ 2 → result ≡ z }
+    ensures other { (z : ℕ) → z < 2 * length web.now.ends → tail_of web.now.ends z ≡ tail_of web.now.ends d → z ≢ d → result ≡ z }
 {
-    let v = tail(web, d) as usize;
-    if stubs.first[v] == d {
-        stubs.last[v]
-    } else {
-        stubs.first[v]
-    }
+    let star = stars.at(web.tail(d));
+    if star[0] == d { star[1] } else { star[0] }
 }
 
 /// The straight path that a dart begins.
-fn follow(alloc: Global, web: &Web, stubs: &Stubs, d: u32) -> Result<Option<Trace>, AllocError>
-    requires stubs { AreStubsOf web.now stubs.now }
+fn follow(alloc: Global, web: &Web, stars: &Stars, d: u32) -> Result<Option<Trace>, AllocError>
+    requires stars { stars.now ≡ web.now }
     requires dart { d < 2 * length web.now.ends }
     ensures { IfOk result (λ found. IsTraceOf web.now.ends d (trace_in found)) }
 {
@@ -41,11 +36,11 @@ fn follow(alloc: Global, web: &Web, stubs: &Stubs, d: u32) -> Result<Option<Trac
     let mut dart = d;
     for _ in 0..web.segments() {
         path.push(dart / 2)?;
-        let end = tail(web, dart ^ 1);
-        if stubs.degree[end as usize] != 2 {
+        let end = web.tail(dart ^ 1);
+        if stars.at(end).len() != 2 {
             return Ok(Some(Trace { end, path }));
         }
-        dart = other_dart(web, stubs, dart ^ 1);
+        dart = other_dart(web, stars, dart ^ 1);
     }
     Ok(None)
 }
@@ -54,19 +49,19 @@ fn follow(alloc: Global, web: &Web, stubs: &Stubs, d: u32) -> Result<Option<Trac
 fn path_by(
     alloc: Global,
     web: &Web,
-    stubs: &Stubs,
+    stars: &Stars,
     u: u32,
     v: u32,
     d: u32,
 ) -> Result<Option<Vec<u32>>, AllocError>
-    requires stubs { AreStubsOf web.now stubs.now }
+    requires stars { stars.now ≡ web.now }
     requires dart { d < 2 * length web.now.ends }
     ensures { IfOk result (λ found. IsStraightBy web.now.ends u v d (path_in found)) }
 {
-    if tail(web, d) != u {
+    if web.tail(d) != u {
         return Ok(None);
     }
-    match follow(alloc, web, stubs, d)? {
+    match follow(alloc, web, stars, d)? {
         None => Ok(None),
         Some(trace) => {
             if trace.end == v {
@@ -82,15 +77,15 @@ fn path_by(
 pub fn path_between(
     alloc: Global,
     web: &Web,
-    stubs: &Stubs,
+    stars: &Stars,
     u: u32,
     v: u32,
 ) -> Result<Option<Vec<u32>>, AllocError>
-    requires stubs { AreStubsOf web.now stubs.now }
+    requires stars { stars.now ≡ web.now }
     ensures { IfOk result (λ found. IsStraightBetween web.now.ends u v (path_in found)) }
 {
     for d in 0..2 * web.segments() {
-        if let Some(path) = path_by(alloc, web, stubs, u, v, d)? {
+        if let Some(path) = path_by(alloc, web, stars, u, v, d)? {
             return Ok(Some(path));
         }
     }

@@ -1,9 +1,7 @@
 -- How many numbers below a bound pass a test.
-use Rattle.std.proofs.Common.{◌≡◌, ℕ, zero, suc, ◌+◌, ◌<◌, ◌≤◌, Bool, true, false, cond, List, [], ◌∷◌, ◌++◌, get_or, inl, inr, length, take, refl, sym, ◌∙◌, ap, arith}
+use Rattle.std.proofs.Common.{◌≡◌, ℕ, zero, suc, ◌+◌, ◌≤◌, Bool, true, false, cond, [], ◌∷◌, ◌++◌, refl, ◌∙◌, ap, arith}
 use Rattle.std.specs.List.{count_by, range_with_len}
-use Rattle.std.proofs.lemmas.List.Sums.{count_by_more_no, count_by_more_yes, sum_by-append}
-use Rattle.std.proofs.lemmas.Bool.{cases_Bool}
-use Rattle.std.proofs.Math.Seq.{take-length}
+use Rattle.std.proofs.lemmas.List.Sums.{sum_by-append}
 use Rattle.xn_model.specs.Lists.{one_if}
 use Rattle.xn_model.specs.Permutation.{count_below}
 
@@ -40,23 +38,3 @@ count_by-range (suc n) p =
     let one : cond (p n) 1 0 + 0 ≡ one_if (p n) = elim (p n) as (λ b. cond b 1 0 + 0 ≡ one_if b) [ true ↦ omega arith | false ↦ omega arith ] in
     ap (count_by p) (range_with_len-suc 0 n ∙ ap (λ x. range_with_len 0 n ++ x ∷ []) e)
     ∙ sum_by-append (λ x. cond (p x) 1 0) (range_with_len 0 n) (n ∷ []) ∙ omega (arith, count_by-range n p, one)
-
--- counted along a list, place by place
-count_by-take : {X : Type 0} (p : X → Bool) → (xs : List X) (d : X) (i : ℕ) → i ≤ length xs → count_by p (take i xs) ≡ count_below i (λ j. p (get_or xs j d))
-count_by-take p xs d zero inside = refl
-count_by-take p xs d (suc i) inside =
-    let e : suc i ≡ i + 1 = omega arith in
-    let before = count_by-take p xs d i (omega arith) in
-    let i_in : i < length xs = omega arith in
-    elim (cases_Bool (p (get_or xs i d))) [
-      | inl passes ↦
-          let one : one_if (p (get_or xs i d)) ≡ 1 = ap one_if passes in
-          ap (λ k. count_by p (take k xs)) e ∙ count_by_more_yes p xs i d i_in passes ∙ omega (arith, before, one)
-      | inr fails ↦
-          let none : one_if (p (get_or xs i d)) ≡ 0 = ap one_if fails in
-          ap (λ k. count_by p (take k xs)) e ∙ count_by_more_no p xs i d i_in fails ∙ omega (arith, before, none)
-    ]
-
-pub count_by-count_below : {X : Type 0} (p : X → Bool) → (xs : List X) (d : X) → count_by p xs ≡ count_below (length xs) (λ j. p (get_or xs j d))
-count_by-count_below p xs d =
-    ap (count_by p) (sym (take-length xs)) ∙ count_by-take p xs d (length xs) (omega arith)

@@ -3,6 +3,7 @@ pub mod Arcs
 pub mod Changes
 pub mod Counting
 pub mod Cut
+pub mod DartFound
 pub mod FaceSteps
 pub mod Fill
 pub mod Forest

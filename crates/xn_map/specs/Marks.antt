@@ -1,15 +1,9 @@
 -- Numbers that are marked.
-use Rattle.std.specs.Prelude.{◌≡◌, ℕ, ◌<◌, ◌⊎◌, ◌↔◌, Bool, true, false, List, length, slice_index_or}
-use Rattle.std.specs.List.{list_any}
-use Rattle.xn_model.specs.Graph.{touches}
+use Rattle.std.specs.Prelude.{◌≡◌, ℕ, ◌<◌, ◌⊎◌, ◌↔◌, Bool, true, false, List, slice_index_or}
 use Rattle.xn_model.specs.Permutation.{Reaches}
 
 abbrev pub is_marked : List Bool → ℕ → Bool
 is_marked marks d = slice_index_or marks d false
-
--- exactly the ends are marked
-abbrev pub MarksEnds : List (ℕ × ℕ) → List Bool → Type 0
-MarksEnds ends marks = (v : ℕ) → v < length marks → is_marked marks v ≡ list_any (λ p. touches p v) ends
 
 -- what follows a marked number is marked
 abbrev pub IsClosed : ℕ → (ℕ → ℕ) → List Bool → Type 0

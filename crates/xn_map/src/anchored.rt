@@ -80,7 +80,7 @@ impl Anchored {
             return None;
         }
         let d = self.darts[v as usize];
-        if d < 2 * self.web.segments() && darts::tail(&self.web, d) == v {
+        if d < 2 * self.web.segments() && self.web.tail(d) == v {
             Some(d)
         } else {
             None
@@ -123,7 +123,7 @@ impl Anchored {
         ensures exactly { self.new ≡ graph_of self.old.nodes (set self.old.ends (d / 2) (ends_moved d v (ends_at self.old.ends (d / 2)))) }
         ensures moved { MovesDart d v self.old self.new }
     {
-        let u = darts::tail(&self.web, d);
+        let u = self.web.tail(d);
         darts::move_dart(&mut self.web, d, v);
         self.darts[u as usize] = other;
         self.darts[v as usize] = d;
@@ -173,7 +173,7 @@ fn find_darts(darts: &mut [u32], web: &Web)
     ensures { AreAnchors web.now darts.new }
 {
     for d in 0..2 * web.segments() {
-        let v = darts::tail(web, d);
+        let v = web.tail(d);
         darts[v as usize] = d;
     }
 }

@@ -53,7 +53,8 @@ fn mark_face(marks: &mut [bool], rings: &Rings, d: u32)
     }
 }
 
-/// Whether two darts lie in one face. It takes no memory.
+/// Whether two darts lie in one face, where the rings have an even number of darts. Its time is linear in the face, and it takes
+/// no memory.
 pub fn in_one_face(rings: &Rings, d: u32, e: u32) -> bool
     requires even { length rings.now % 2 ≡ 0 }
     requires d_in { d < length rings.now }

@@ -12,6 +12,7 @@ mod maps;
 mod rotation;
 
 pub use corners::Corner;
+pub use faces::in_one_face;
 pub use maps::{Map, MapErr};
 
 #[cfg(test)]

@@ -1,38 +1,30 @@
 // Nodes without darts.
-ghost use Rattle.std.specs.Prelude.{◌≡◌, ◌^◌, ◌≤◌, length, false, replicate, IfOk, count_by, not};
+ghost use Rattle.std.specs.Prelude.{◌≡◌, ◌^◌, ◌≤◌, count_by};
+ghost use Rattle.std.specs.List.{range_with_len};
 ghost use Rattle.xn_model.specs.Map.{is_lone};
 ghost use Rattle.xn_model.specs.Permutation.{count_below};
-ghost use Rattle.xn_map.specs.Marks.{MarksEnds};
 
-use std::alloc::{AllocError, Global};
-use xn_graph::Web;
+use crate::anchored::Anchored;
 
-/// The number of nodes without darts.
-pub fn lone_count(alloc: Global, web: &Web) -> Result<u64, AllocError>
-    ensures lone { IfOk result (λ count. count ≡ count_below web.now.nodes (is_lone web.now.ends)) }
-    ensures few { IfOk result (λ count. count ≤ 2 ^ 30) }
+/// The number of nodes without darts. It takes no memory.
+pub fn lone_count(web: &Anchored) -> u64
+    ensures lone { result ≡ count_below web.now.nodes (is_lone web.now.ends) }
+    ensures few { result ≤ 2 ^ 30 }
 {
-    let mut met = vec![in alloc; false; web.nodes() as usize]?;
-    mark_ends(met.as_mut_slice(), web);
-    Ok(unmarked_count(&met) as u64)
+    lone_among(web) as u64
 }
 
-// How many numbers aren't marked.
-fn unmarked_count(marks: &[bool]) -> usize
-    ensures unmarked { result ≡ count_by not marks.now }
-    ensures few { result ≤ length marks.now }
+// The number of nodes without darts, along the list of the nodes.
+fn lone_among(web: &Anchored) -> usize
+    ensures lone { result ≡ count_by (is_lone web.now.ends) (range_with_len 0 web.now.nodes) }
+    ensures few { result ≤ 2 ^ 30 }
 {
-    marks.iter().filter(|mark| !**mark).count()
+    (0..web.nodes()).filter(|v| is_lone(web, *v)).count()
 }
 
-// Marks the ends of each segment.
-fn mark_ends(marks: &mut [bool], web: &Web)
-    requires { marks.old ≡ replicate web.now.nodes false }
-    ensures marks { MarksEnds web.now.ends marks.new }
+// Whether a node has no darts.
+fn is_lone(web: &Anchored, v: u32) -> bool
+    ensures { result ≡ is_lone web.now.ends v }
 {
-    for s in 0..web.segments() {
-        let (u, v) = web.end(s);
-        marks[u as usize] = true;
-        marks[v as usize] = true;
-    }
+    web.dart_of(v).is_none()
 }

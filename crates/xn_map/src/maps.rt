@@ -16,7 +16,6 @@ mod splitting;
 use crate::anchored::Anchored;
 use crate::components::{component_count, in_one_component};
 use crate::corners::Corner;
-use crate::darts;
 use crate::faces::{face_cycle_count, in_one_face};
 use crate::lone::lone_count;
 use crate::rotation::{rings_of, rotation_flaw};
@@ -113,7 +112,7 @@ impl Map {
         ensures value { result ≡ tail_of self.now.web.ends d }
         ensures node { result < self.now.web.nodes }
     {
-        darts::tail(self.web.web(), d)
+        self.web.web().tail(d)
     }
 
     /// The number of faces: of the cycles of the walk from a dart to the successor of its reverse,
@@ -123,7 +122,7 @@ impl Map {
         ensures few { IfOk result (λ f. f ≤ 3 * 2 ^ 30) }
     {
         let cycles = face_cycle_count(alloc, &self.rings)?;
-        let lone = lone_count(alloc, self.web.web())?;
+        let lone = lone_count(&self.web);
         Ok(cycles + lone)
     }
 

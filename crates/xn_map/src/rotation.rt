@@ -6,7 +6,6 @@ ghost use Rattle.xn_map.specs.Marks.{IsClosed, MarksCycle, is_marked};
 ghost use Rattle.xn_model.specs.First.{IsFirst};
 ghost use Rattle.xn_map.specs.Rotation.{AreTogether, IsAstray, IsFlawOrMap, LeadsRight, LeadsWrong, MarksTargets};
 
-use crate::darts::tail;
 use std::alloc::{AllocError, Global};
 use xn_graph::Web;
 use xn_ring::Rings;
@@ -50,7 +49,7 @@ fn leads_wrong(taken: &[bool], web: &Web, next: &[u32], d: u32) -> bool
     ensures { IsTrue result ↔ LeadsWrong web.now.ends (at next.now) d }
 {
     let to = next[d as usize];
-    to as usize >= next.len() || tail(web, to) != tail(web, d) || taken[to as usize]
+    to as usize >= next.len() || web.tail(to) != web.tail(d) || taken[to as usize]
 }
 
 // The first dart that isn't in the ring of the least dart at its node.
@@ -64,7 +63,7 @@ fn first_apart(begun: &mut [bool], met: &mut [bool], web: &Web, next: &[u32]) ->
         (λ d. (d < length next.now) × IsFirst (IsAstray web.now.ends (at next.now)) d) }
 {
     for d in 0..2 * web.segments() {
-        let node = tail(web, d) as usize;
+        let node = web.tail(d) as usize;
         if !begun[node] {
             begun[node] = true;
             mark_ring(met, next, d);

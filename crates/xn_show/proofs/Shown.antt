@@ -27,13 +27,14 @@ use Rattle.xn_orders.proofs.LoopFree.{no_loop}
 use Rattle.xn_orders.proofs.Rising.{each_append}
 use Rattle.xn_show.specs.Laws.{found_web, numbered}
 use Rattle.xn_show.specs.Text.{node_line, segment_edges, segment_line, segments_text, show_text}
-use Rattle.xn_show.specs.Turns.{darts_at, turn_of}
+use Rattle.xn_graph.specs.Stars.{darts_of}
+use Rattle.xn_graph.proofs.DartsOf.{darts_of-at}
+use Rattle.xn_show.specs.Turns.{turn_of}
 use Rattle.xn_show.proofs.Blocks.{edges_found, edges_so, ids_found, length-numbered}
 use Rattle.xn_show.proofs.Lines.{directed_is, graph_is, lines_first, node_first, node_kinds, segment_first, segment_kinds}
 use Rattle.xn_show.proofs.Numbers.{integer, number_first}
 use Rattle.xn_show.proofs.TokenKinds.{Reads, close_first, lacks_tested, located, open_first, reads_none, run_first, separator_first, word_first}
 use Rattle.xn_show.proofs.Shapes.{EachPair, HasEnds, HasInteger, close_has_none, close_inside, close_keeps, each_block, node_block, node_inside, node_is_no_edge, node_keeps, passes_all, segment_block, segment_inside, segment_is_no_node, segment_keeps, without_first}
-use Rattle.xn_show.proofs.TurnSteps.{least_below}
 
 -- ---- small numbers
 
@@ -133,8 +134,8 @@ module _ (g : Graph) (ids : List ℤ) (d : Drawing) (limited : IsLimitedGraph g)
 
   turn_small : (v : ℕ) → AllByRecursion (λ m. m < 10 ^ 64) (turn_of web.ends (at d.next) v)
   turn_small v =
-      walk_small (at d.next) (2 * length web.ends) (omega (arith, web_small.few_segments)) drawing.drawing.is_flat_map.is_map.permutes.below (length (darts_at web.ends v)) (at (darts_at web.ends v) 0)
-      (least_below web.ends (2 * length web.ends) v)
+      walk_small (at d.next) (2 * length web.ends) (omega (arith, web_small.few_segments)) drawing.drawing.is_flat_map.is_map.permutes.below (length (darts_of web.ends v)) (at (darts_of web.ends v) 0)
+      (λ some. (darts_of-at web.ends v 0 some).0)
 
   of_small : (s : ℕ) → at of s < 2 ^ 63
   of_small s =

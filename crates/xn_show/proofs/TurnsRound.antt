@@ -1,68 +1,22 @@
 -- The turn of a node of a map has each of its darts, once.
-use Rattle.std.proofs.Common.{◌≡◌, ◌≢◌, ℕ, zero, suc, ◌+◌, ◌-◌, ◌*◌, ◌<◌, ◌≤◌, ◌==◌, inl, inr, Bool, true, false, cond, eqb, List, [], ◌∷◌, length, get_or, refl, sym, ap, ◌∙◌, subst, length-append, arith}
-use Rattle.std.specs.Prelude.{filter, nat_eq}
-use Rattle.std.specs.List.{IsDistinct, list_any, range_with_len}
+use Rattle.std.proofs.Common.{◌≡◌, ℕ, zero, suc, ◌+◌, ◌-◌, ◌*◌, ◌<◌, ◌≤◌, ◌==◌, inl, inr, Bool, true, false, cond, eqb, List, [], length, get_or, refl, sym, ap, ◌∙◌, subst, arith}
+use Rattle.std.specs.Prelude.{nat_eq}
+use Rattle.std.specs.List.{IsDistinct, list_any}
 use Rattle.std.proofs.lemmas.Bool.{both_ways, cases_Bool, cases_eq, eq-eqb, eqb-true, ne_eqb}
-use Rattle.std.proofs.lemmas.List.Elements.{filter-append}
 use Rattle.std.proofs.lemmas.Map.Keys.{IsDistinct-from_apart}
-use Rattle.xn_model.specs.Lists.{at, has, one_if}
+use Rattle.xn_model.specs.Lists.{at, has}
 use Rattle.xn_model.specs.Map.{IsMap, tail_of}
-use Rattle.xn_model.specs.Permutation.{Permutes, count_below, iterate, walk}
+use Rattle.xn_model.specs.Permutation.{Permutes, iterate, walk}
 use Rattle.xn_ring.proofs.Counting.{count-none}
 use Rattle.xn_ring.proofs.Marked.{any_walk_at, any_walk_from}
 use Rattle.xn_ring.proofs.Marks.{count_marks}
 use Rattle.xn_ring.proofs.Orbits.{comes_back, first_below, iterate-add, iterate-step, iterate_apart, iterate_below, within_round}
 use Rattle.xn_map.proofs.Arcs.{tail_walk}
 use Rattle.xn_show.specs.Laws.{TurnsGoRound}
-use Rattle.xn_show.specs.Turns.{HasDartsOnce, darts_at, turn_of}
-use Rattle.xn_show.proofs.Appended.{range_more}
-use Rattle.xn_show.proofs.TurnSteps.{least_below, length-walk}
-
--- ---- numbers that pass a test
-
-module _ (test : ℕ → Bool) where
-  one_more : (n : ℕ) (b : Bool) → test n ≡ b → length (filter test (range_with_len 0 (n + 1))) ≡ length (filter test (range_with_len 0 n)) + one_if b
-  one_more n true h =
-      let more = ap (filter test) (range_more n) ∙ filter-append test (range_with_len 0 n) (n ∷ []) in
-      let last : filter test (n ∷ []) ≡ n ∷ [] = rw h refl in
-      omega (arith, ap length more, length-append (filter test (range_with_len 0 n)) (filter test (n ∷ [])), ap length last)
-  one_more n false h =
-      let more = ap (filter test) (range_more n) ∙ filter-append test (range_with_len 0 n) (n ∷ []) in
-      let last : filter test (n ∷ []) ≡ [] = rw h refl in
-      omega (arith, ap length more, length-append (filter test (range_with_len 0 n)) (filter test (n ∷ [])), ap length last)
-
-  counted : (n : ℕ) → length (filter test (range_with_len 0 n)) ≡ count_below n test
-  counted zero = refl
-  counted (suc n) =
-      let on : suc n ≡ n + 1 = omega arith in
-      ap (λ (k : ℕ). length (filter test (range_with_len 0 k))) on ∙ one_more n (test n) refl ∙ ap (λ (k : ℕ). k + one_if (test n)) (counted n)
-
-  some_counted : (n d : ℕ) → d < n → test d ≡ true → 0 < count_below n test
-  some_counted zero d low h = absurd (omega arith)
-  some_counted (suc n) d low h = elim (cases_eq d n) [
-    | inl last ↦
-        let one : one_if (test n) ≡ 1 = ap one_if (ap test (sym last) ∙ h) in
-        omega (arith, one)
-    | inr before ↦ let rest = some_counted n d (omega arith) h in omega (arith, rest)
-  ]
-
-  -- the first that passes does, and is the least
-  first_passes : (a n : ℕ) → 0 < length (filter test (range_with_len a n)) → test (at (filter test (range_with_len a n)) 0) ≡ true
-  first_passes a zero some = absurd (omega (arith, some))
-  first_passes a (suc n) some = elim (cases_Bool (test a)) [
-    | inl here ↦ rw here here
-    | inr other ↦ rw other (first_passes (a + 1) n (rw other at some))
-  ]
-
-  first_least : (a n d : ℕ) → a ≤ d → d < a + n → test d ≡ true → at (filter test (range_with_len a n)) 0 ≤ d
-  first_least a zero d low high h = absurd (omega arith)
-  first_least a (suc n) d low high h = elim (cases_Bool (test a)) [
-    | inl here ↦ rw here low
-    | inr other ↦
-        let differ : a ≢ d = λ same. both_ways _ other (ap test same ∙ h) in
-        let rest = first_least (a + 1) n d (omega (arith, differ)) (omega arith) h in
-        rw other rest
-  ]
+use Rattle.xn_graph.specs.Stars.{darts_of}
+use Rattle.xn_graph.proofs.DartsOf.{darts_of-at, darts_of-least, darts_of-place, length-darts_of}
+use Rattle.xn_show.specs.Turns.{HasDartsOnce, turn_of}
+use Rattle.xn_show.proofs.TurnSteps.{length-walk}
 
 -- ---- a walk that comes back
 
@@ -114,7 +68,7 @@ module _ (nodes : ℕ) (ends : List (ℕ × ℕ)) (next : ℕ → ℕ) (v : ℕ)
   at_v d = tail_of ends d == v
 
   abbrev count : ℕ
-  count = length (darts_at ends v)
+  count = length (darts_of ends v)
 
   module _ (d : ℕ) (d_in : d < n) (d_at : tail_of ends d ≡ v) (m : ℕ) (comes : ComesRound next d m) where
     listed_at : (e j : ℕ) → iterate next j d ≡ e → (e < n) × (tail_of ends e ≡ v)
@@ -144,7 +98,7 @@ module _ (nodes : ℕ) (ends : List (ℕ × ℕ)) (next : ℕ → ℕ) (v : ℕ)
               )
           | inr other ↦ elim (cases_Bool (list_any (eqb e) (walk next (suc m) d))) [ inl listed ↦ rw listed refl | inr unlisted ↦ rw (unlisted, other) refl ]
         ]) in
-        omega (arith, counted at_v n, marks, left, length-walk next (suc m) d)
+        omega (arith, length-darts_of ends v, marks, left, length-walk next (suc m) d)
 
     -- where it begins with the least dart
     goes_round : ((e : ℕ) → e < n → tail_of ends e ≡ v → d ≤ e) → HasDartsOnce ends v (walk next (suc m) d)
@@ -164,13 +118,13 @@ module _ (nodes : ℕ) (ends : List (ℕ × ℕ)) (next : ℕ → ℕ) (v : ℕ)
         }
 
   abbrev first : ℕ
-  first = at (darts_at ends v) 0
+  first = at (darts_of ends v) 0
 
   no_turn : count ≡ 0 → HasDartsOnce ends v []
   no_turn none = record {
     each = λ e. (
       λ h. absurd (both_ways false refl h),
-      λ p. (let some = some_counted at_v n e p.0 (eq-eqb _ _ p.1) in absurd (omega (arith, some, counted at_v n, none))),
+      λ p. (let place = darts_of-place ends v e p.0 p.1 in absurd (omega (arith, place.1, none))),
     );
     once = no_two;
     least = λ e h. absurd (both_ways false refl h);
@@ -183,11 +137,12 @@ module _ (nodes : ℕ) (ends : List (ℕ × ℕ)) (next : ℕ → ℕ) (v : ℕ)
         | inl none ↦ subst P (sym none) (no_turn none)
         | inr some ↦
             let some_dart : 0 < count = omega (arith, some) in
-            let first_in = least_below ends n v some_dart in
-            let first_at = eqb-true _ _ (first_passes at_v 0 n some_dart) in
+            let there = darts_of-at ends v 0 some_dart in
+            let first_in = there.0 in
+            let first_at = there.1 in
             let comes = round n next is_map.permutes first first_in in
             subst P (sym (steps first first_in first_at comes.0 comes.1))
-            (goes_round first first_in first_at comes.0 comes.1 (λ e e_in e_at. first_least at_v 0 n e (omega arith) (omega (arith, e_in)) (eq-eqb _ _ e_at)))
+            (goes_round first first_in first_at comes.0 comes.1 (λ e e_in e_at. darts_of-least ends v e e_in e_at))
       ]
 
 pub turns_go_round : TurnsGoRound

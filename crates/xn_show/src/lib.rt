@@ -6,7 +6,6 @@ mod segments;
 #[cfg(test)]
 mod tests;
 mod text;
-mod turns;
 mod writing;
 
 pub use text::show;

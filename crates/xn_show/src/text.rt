@@ -1,16 +1,14 @@
 // The text that shows a drawing.
 ghost use Rattle.std.specs.Prelude.{◌≡◌, ◌++◌, ◌*◌, IfOk, OnOk, length};
 ghost use Rattle.xn_model.specs.Drawing.{IsListedDrawing, drawn_web};
-ghost use Rattle.xn_model.specs.Graph.{edges_of};
 ghost use Rattle.xn_model.specs.Lists.{at};
-ghost use Rattle.xn_show.specs.Darts.{LeadsInside, HasDarts};
+ghost use Rattle.xn_show.specs.Darts.{LeadsInside};
 ghost use Rattle.xn_show.specs.Text.{nodes_text, segments_text, show_text};
 
 use crate::segments::segment_edges;
-use crate::turns::{Darts, node_darts};
 use crate::writing::{put_node, put_segment};
 use std::alloc::{AllocError, Global};
-use xn_graph::{Graph, Web};
+use xn_graph::{Graph, Stars, Web};
 use xn_kinds::Drawing;
 use xn_orders::planarise;
 
@@ -28,10 +26,10 @@ pub fn show(
     ensures { IfOk result (λ text. text.items ≡ show_text graph.now ids.now drawing.now) }
 {
     let web = drawn_web(alloc, graph, drawing)?;
-    let nodes = node_darts(alloc, &web)?;
+    let stars = Stars::of(alloc, &web)?;
     let of = segment_edges(alloc, graph, &drawing.orders)?;
     let mut to = b"graph [\n  directed 0\n".to_vec(alloc)?;
-    put_nodes(&mut to, ids, drawing.next.as_slice(), &web, &nodes)?;
+    put_nodes(&mut to, ids, drawing.next.as_slice(), &stars)?;
     put_segments(&mut to, &web, &of)?;
     to.extend_from_slice(b"]\n".as_slice())?;
     Ok(to)
@@ -42,32 +40,17 @@ fn drawn_web(alloc: Global, graph: &Graph, drawing: &Drawing) -> Result<Web, All
     requires { IsListedDrawing graph.now drawing.now.orders drawing.now.next }
     ensures { IfOk result (λ web. web ≡ drawn_web graph.now drawing.now.orders) }
 {
-    let edges = all_edges(alloc, graph)?;
+    let edges = graph.all_edges(alloc)?;
     planarise(alloc, graph, &edges, &drawing.orders)
 }
 
-// The numbers of the edges.
-fn all_edges(alloc: Global, graph: &Graph) -> Result<Vec<u32>, AllocError>
-    ensures { IfOk result (λ edges. edges.items ≡ edges_of graph.now) }
-{
-    (0..graph.edges()).collect(alloc)
-}
-
 // The lines of the nodes of a web, each with its darts.
-fn put_nodes(
-    to: &mut Vec<u8>,
-    ids: &[i64],
-    next: &[u32],
-    web: &Web,
-    nodes: &[Darts],
-) -> Result<(), AllocError>
-    requires nodes { length nodes.now ≡ web.now.nodes }
-    requires darts { HasDarts web.now.ends (2 * length web.now.ends) nodes.now }
-    requires turns { LeadsInside next.now (2 * length web.now.ends) }
-    ensures { OnOk result (to.new.items ≡ to.old.items ++ nodes_text ids.now web.now (at next.now)) }
+fn put_nodes(to: &mut Vec<u8>, ids: &[i64], next: &[u32], stars: &Stars) -> Result<(), AllocError>
+    requires turns { LeadsInside next.now (2 * length stars.now.ends) }
+    ensures { OnOk result (to.new.items ≡ to.old.items ++ nodes_text ids.now stars.now (at next.now)) }
 {
-    for v in 0..web.nodes() {
-        put_node(to, ids, v, next, nodes[v as usize])?;
+    for v in 0..stars.nodes() {
+        put_node(to, ids, v, next, stars.at(v))?;
     }
     Ok(())
 }

@@ -1,11 +1,10 @@
 // Lines are appended to a text. After want of memory a part of a line may have been appended.
-ghost use Rattle.std.specs.Prelude.{◌≡◌, ◌++◌, OnOk, decimal};
+ghost use Rattle.std.specs.Prelude.{◌≡◌, ◌++◌, OnOk, decimal, length};
 ghost use Rattle.xn_model.specs.Lists.{at};
 ghost use Rattle.xn_model.specs.Permutation.{walk};
 ghost use Rattle.xn_show.specs.Darts.{StaysIn, dart_text};
 ghost use Rattle.xn_show.specs.Text.{input_text, kind_text, node_line, segment_line, spaced, turn_text};
 
-use crate::turns::Darts;
 use std::alloc::AllocError;
 use xn_text::{put_i128, put_u64};
 
@@ -20,20 +19,20 @@ pub fn put_segment(to: &mut Vec<u8>, s: u32, ends: (u32, u32), e: u32) -> Result
     to.extend_from_slice(b" ]\n".as_slice())
 }
 
-/// Appends the line of a node with these darts.
+/// Appends the line of a node with these darts, shown as they turn.
 pub fn put_node(
     to: &mut Vec<u8>,
     ids: &[i64],
     v: u32,
     next: &[u32],
-    darts: Darts,
+    star: &[u32],
 ) -> Result<(), AllocError>
-    requires { StaysIn next.now darts }
-    ensures { OnOk result (to.new.items ≡ to.old.items ++ node_line ids.now v (walk (at next.now) darts.count darts.least)) }
+    requires { StaysIn next.now star.now }
+    ensures { OnOk result (to.new.items ≡ to.old.items ++ node_line ids.now v (walk (at next.now) (length star.now) (at star.now 0))) }
 {
     put(to, b"  node [ id ".as_slice(), v)?;
     put_kind(to, ids, v)?;
-    put_turn(to, next, darts)
+    put_turn(to, next, star)
 }
 
 // What is said of a node: the first nodes have ids, and the others are crossings.
@@ -58,31 +57,38 @@ fn put_input(to: &mut Vec<u8>, id: i64) -> Result<(), AllocError>
 }
 
 // The end of the line of a node.
-fn put_turn(to: &mut Vec<u8>, next: &[u32], darts: Darts) -> Result<(), AllocError>
-    requires { StaysIn next.now darts }
-    ensures { OnOk result (to.new.items ≡ to.old.items ++ turn_text (walk (at next.now) darts.count darts.least)) }
+fn put_turn(to: &mut Vec<u8>, next: &[u32], star: &[u32]) -> Result<(), AllocError>
+    requires { StaysIn next.now star.now }
+    ensures { OnOk result (to.new.items ≡ to.old.items ++ turn_text (walk (at next.now) (length star.now) (at star.now 0))) }
 {
     to.extend_from_slice(b" turn \"".as_slice())?;
-    put_darts(to, next, darts)?;
+    put_darts(to, next, star)?;
     to.extend_from_slice(b"\" ]\n".as_slice())?;
     Ok(())
 }
 
-// So many darts, from the least one on.
-fn put_darts(to: &mut Vec<u8>, next: &[u32], darts: Darts) -> Result<(), AllocError>
-    requires { StaysIn next.now darts }
-    ensures { OnOk result (to.new.items ≡ to.old.items ++ spaced (walk (at next.now) darts.count darts.least)) }
+// As many darts as the node has, from the least one on.
+fn put_darts(to: &mut Vec<u8>, next: &[u32], star: &[u32]) -> Result<(), AllocError>
+    requires { StaysIn next.now star.now }
+    ensures { OnOk result (to.new.items ≡ to.old.items ++ spaced (walk (at next.now) (length star.now) (at star.now 0))) }
 {
-    let mut d = darts.least;
-    for i in 0..darts.count {
+    let mut d = least(star);
+    for i in 0..star.len() {
         put_dart(to, i, d)?;
         d = next[d as usize];
     }
     Ok(())
 }
 
+// The first of the darts of a node, or 0 where there is none.
+fn least(star: &[u32]) -> u32
+    ensures { result ≡ at star.now 0 }
+{
+    star.first().copied().unwrap_or(0)
+}
+
 // A dart behind i others: a space stands between each two.
-fn put_dart(to: &mut Vec<u8>, i: u32, d: u32) -> Result<(), AllocError>
+fn put_dart(to: &mut Vec<u8>, i: usize, d: u32) -> Result<(), AllocError>
     ensures { OnOk result (to.new.items ≡ to.old.items ++ dart_text i d) }
 {
     if i == 0 {

@@ -8,7 +8,6 @@ ghost use Rattle.xn_map.specs.Listed.{IsListedMap};
 ghost use Rattle.xn_map.specs.Passing.{AreTwoDarts, HasTwoDarts, LeadsOn, LosesNode, MovesNode, RunsOn, Smooths};
 
 use crate::anchored::Anchored;
-use crate::darts;
 use crate::maps::Map;
 use crate::maps::changes::{fill, take_out, take_place};
 use crate::maps::splitting::move_arc;
@@ -67,7 +66,7 @@ fn lead_on(web: &mut Anchored, p: u32, q: u32)
     requires only { (d : ℕ) → IsDartOf web.old.ends (tail_of web.old.ends p) d → (d ≡ p) ⊎ (d ≡ q) }
     ensures { LeadsOn p q web.old web.new }
 {
-    let far = darts::tail(web.web(), q ^ 1);
+    let far = web.web().tail(q ^ 1);
     web.move_dart(p, far, q);
     web.remove_segment(q / 2, p, p);
 }

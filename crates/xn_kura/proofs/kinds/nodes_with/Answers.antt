@@ -1,12 +1,12 @@
-use Rattle.std.proofs.Common.{◌≡◌, ◌<◌, ◌+◌, ◌∙◌, ℕ, List, sym, subst, arith}
+use Rattle.std.proofs.Common.{◌≡◌, ◌+◌, ◌∙◌, ℕ, List, length, sym, subst}
 use Rattle.std.specs.Prelude.{Vec}
 use Rattle.std.specs.Global.{Global}
 use Rattle.xn_kura.proofs.Proposals.{nodes-push, nodes-skip, nodes-start}
-use Rattle.xn_kura.proofs.Tracing.{there}
+use Rattle.xn_kura.proofs.Tracing.{star_count}
 use Rattle.xn_kura.specs.Kinds.{AreNodesWith}
 use Rattle.xn_model.specs.Loose.{dart_count}
 use Rattle.xn_kura.proofs.kinds.nodes_with.Goals as goal
-use Rattle.xn_kura.proofs.kinds.nodes_with.Goals.{then-index-count+in_ok-push, else-index-count}
+use Rattle.xn_kura.proofs.kinds.nodes_with.Goals.{then-at-count+in_ok-push, else-at-count}
 
 pub loop-v-init : goal.loop-v-init
 loop-v-init c =
@@ -17,14 +17,11 @@ pub loop-v-preserved : goal.loop-v-preserved
 loop-v-preserved c =
     let ends = c.args.web.now.ends in
     let v = c.loop-v.v in
-    let are = c.requires.stubs in
-    let v_in : v < c.args.web.now.nodes = omega (arith, c.loop-v-test.true, c.nodes-v-end.ensures.value) in
-    let counted : dart_count ends v ≡ c.index.result.now =
-    sym (are.degrees v v_in) ∙ sym (there c.args.stubs.now.degree.items v c.index.result.now (omega (arith, are.degree_fits, v_in))) ∙ sym c.index.ensures in
+    let counted : dart_count ends v ≡ length c.at.result.now = sym (star_count c.args.web.now c.args.stars.now v c.at.result.now c.requires.stars c.at.ensures) in
     let P : List ℕ → Type 0 = λ xs. AreNodesWith ends (v + 1) c.args.count xs in
     let Q : Vec ℕ Global → Type 0 = λ x. AreNodesWith ends (v + 1) c.args.count x.items in
-    elim c.if-index-count.branch [
-      | then-index-count+in_ok-push w ↦
-          subst Q (sym w.nodes-is) (subst P (sym w.in_ok-push.ensures.items) (nodes-push ends v c.args.count c.loop-v.nodes.items c.loop-v.invariant (counted ∙ w.if-index-count.true)))
-      | else-index-count w ↦ subst Q (sym w.nodes-is) (nodes-skip ends v c.args.count c.loop-v.nodes.items c.loop-v.invariant (λ e. w.if-index-count.false (sym counted ∙ e)))
+    elim c.if-at-count.branch [
+      | then-at-count+in_ok-push w ↦
+          subst Q (sym w.nodes-is) (subst P (sym w.in_ok-push.ensures.items) (nodes-push ends v c.args.count c.loop-v.nodes.items c.loop-v.invariant (counted ∙ w.if-at-count.true)))
+      | else-at-count w ↦ subst Q (sym w.nodes-is) (nodes-skip ends v c.args.count c.loop-v.nodes.items c.loop-v.invariant (λ e. w.if-at-count.false (sym counted ∙ e)))
     ]

@@ -9,4 +9,4 @@ pub put_segments-requires : goal.put_segments-requires
 put_segments-requires c =
     let g = c.args.graph.now in
     let ord = order_of g c.args.drawing.now.orders in
-    ap length (c.deref-2.ensures.value ∙ c.in_ok-of.ensures) ∙ length-segment_edges g (crossings_of (edges_of g) ord) ord (edges_of g) ∙ sym (ap (λ web. length web.ends) c.in_ok-web.ensures)
+    ap length (c.deref.ensures.value ∙ c.in_ok-of.ensures) ∙ length-segment_edges g (crossings_of (edges_of g) ord) ord (edges_of g) ∙ sym (ap (λ web. length web.ends) c.in_ok-web.ensures)

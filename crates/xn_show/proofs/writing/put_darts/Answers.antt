@@ -9,7 +9,7 @@ use Rattle.xn_show.proofs.writing.put_darts.Goals as goal
 pub loop-i-preserved : goal.loop-i-preserved
 loop-i-preserved c =
     let f = at c.args.next.now in
-    let least = c.args.darts.least in
+    let least = at c.args.star.now 0 in
     let old = c.loop-i.invariant in
     let i = c.loop-i.i in
     record {

@@ -7,7 +7,7 @@ use Rattle.xn_show.proofs.writing.put_darts.Given as goal
 -- the darts so far stand at the end
 abbrev pub invariant-loop-i : goal.invariant-loop-i
 invariant-loop-i l = record {
-  text : l.to.items ≡ l.fn.to.items ++ spaced (walk (at l.next) l.i l.fn.darts.least);
-  dart : l.d ≡ iterate (at l.next) l.i l.fn.darts.least;
-  inside : l.i < l.fn.darts.count → l.d < length l.next;
+  text : l.to.items ≡ l.fn.to.items ++ spaced (walk (at l.next) l.i (at l.star 0));
+  dart : l.d ≡ iterate (at l.next) l.i (at l.star 0);
+  inside : l.i < length l.star → l.d < length l.next;
 }
