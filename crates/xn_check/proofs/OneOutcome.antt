@@ -6,7 +6,7 @@ use Rattle.xn_draw.proofs.Excluded.{no_flaw, one_flaw}
 use Rattle.xn_model.specs.Graph.{Graph}
 use Rattle.xn_kinds.specs.Bound.{IsBound}
 use Rattle.xn_kinds.specs.Row.{RowHolds}
-use Rattle.xn_kinds.specs.State.{Reached}
+use Rattle.xn_kinds.specs.State.{State}
 use Rattle.xn_kinds.specs.declared.flaws.DrawFlaw.{DrawFlaw}
 use Rattle.xn_kinds.specs.declared.flaws.Flaw.{Flaw}
 use Rattle.xn_kinds.specs.declared.flaws.FlawKind.{FlawKind}
@@ -23,7 +23,7 @@ use Rattle.xn_rows.proofs.Excluded.{no_row_flaw, one_row_flaw}
 use Rattle.xn_check.specs.FrontSaid.{FrontSaid}
 use Rattle.xn_check.specs.Judging.{AtEnd, Judges, OnLine, Rules}
 use Rattle.xn_check.specs.Laws.{OneDrawVerdict, OneVerdict}
-use Rattle.xn_check.specs.Meaning.{Agrees, DrawnFails, Breaks, FrontAgrees, FrontFails, KeepsFirst, NodeFails, PathFails, RowFails, StepFails, need_of}
+use Rattle.xn_check.specs.Meaning.{Agrees, DrawnFails, Breaks, DrawAgrees, DrawBreaks, KeepsFirst, NodeFails, PathFails, RowFails, StepFails, need_of}
 use Rattle.xn_check.specs.RowsSaid.{row_by_list, row_by_path}
 use Rattle.xn_check.specs.Said.{Said}
 use Rattle.xn_check.specs.Verdict.{check_rules, draw_rules}
@@ -66,13 +66,13 @@ module _ {S A : Type 0} (rules : Rules S A) (clear : AreClear rules) where
 -- ---- lines up to `drawn`
 
 module _ (g : Graph) (loops : ℕ) where
-  drawn_apart : (f : FrontSaid) (kind : FlawKind) → FrontAgrees g loops f item.Drawn → DrawnFails g f kind → ⊥
+  drawn_apart : (f : FrontSaid) (kind : FlawKind) → DrawAgrees g loops f item.Drawn → DrawnFails g f kind → ⊥
   drawn_apart f kind agrees fails = elim fails [
     | inl flaw ↦ no_flaw g f.lists f.next agrees.0 flaw.0 flaw.1
     | inr count ↦ count.1 agrees.1
   ]
 
-  front_apart : (f : FrontSaid) (x : Item) (kind : FlawKind) → FrontAgrees g loops f x → FrontFails g loops f x kind → ⊥
+  front_apart : (f : FrontSaid) (x : Item) (kind : FlawKind) → DrawAgrees g loops f x → DrawBreaks g loops f x kind → ⊥
   front_apart f (item.Header n) kind agrees fails = fails
   front_apart f (item.Graph n m) kind agrees fails = fails.0 agrees
   front_apart f (item.Loops l) kind agrees fails = fails.0 agrees
@@ -104,7 +104,7 @@ module _ (g : Graph) (loops : ℕ) where
     ]
   ]
 
-  front_one : (f : FrontSaid) (x : Item) (k l : FlawKind) → FrontFails g loops f x k → FrontFails g loops f x l → k ≡ l
+  front_one : (f : FrontSaid) (x : Item) (k l : FlawKind) → DrawBreaks g loops f x k → DrawBreaks g loops f x l → k ≡ l
   front_one f (item.Header n) k l first second = absurd first
   front_one f (item.Graph n m) k l first second = first.1 ∙ sym second.1
   front_one f (item.Loops n) k l first second = first.1 ∙ sym second.1
@@ -143,13 +143,13 @@ module _ (g : Graph) (loops : ℕ) where
   bounds_meet : (a b : ℤ) → a ≤ℤ b → b ≤ℤ a → a ≡ b
   bounds_meet a b low high = omega (arith, ints, low, high)
 
-  one_bound : (rows : List Row) (t : Reached) (d : ℕ) (parts : List (ℕ × ℕ)) (a b : ℤ) → IsBound g rows t d parts a → IsBound g rows t d parts b → a ≡ b
+  one_bound : (rows : List Row) (t : State) (d : ℕ) (parts : List (ℕ × ℕ)) (a b : ℤ) → IsBound g rows t d parts a → IsBound g rows t d parts b → a ≡ b
   one_bound rows t d parts a b first second =
       bounds_meet a b
       (subst (λ (v : ℤ). a ≤ℤ v) second.met.2 (first.below_all second.met.0 second.met.1))
       (subst (λ (v : ℤ). b ≤ℤ v) first.met.2 (second.below_all first.met.0 first.met.1))
 
-  step_apart : (k : ℕ) (rows : List Row) (pending : List Reached) (n : ℕ) (node : Node) (kind : FlawKind) → KeepsFirst g k rows pending node →
+  step_apart : (k : ℕ) (rows : List Row) (pending : List State) (n : ℕ) (node : Node) (kind : FlawKind) → KeepsFirst g k rows pending node →
       StepFails g k rows pending n node kind → ⊥
   step_apart k rows [] n node kind keeps fails = keeps
   step_apart k rows (t ∷ pending) n (Pair e f) kind keeps fails = fails.0 keeps
@@ -162,7 +162,7 @@ module _ (g : Graph) (loops : ℕ) where
         is_weak.2 (subst (λ (b : ℤ). need_of k d <ℤ b) (one_bound rows t d parts strong.0 is_weak.0 strong.1 is_weak.1) strong.2)
   ]
 
-  leaf_one : (k : ℕ) (rows : List Row) (t : Reached) (n d : ℕ) (parts : List (ℕ × ℕ)) (x y : FlawKind) →
+  leaf_one : (k : ℕ) (rows : List Row) (t : State) (n d : ℕ) (parts : List (ℕ × ℕ)) (x y : FlawKind) →
       NodeFails g k rows t n (Leaf d parts) x → NodeFails g k rows t n (Leaf d parts) y → x ≡ y
   leaf_one k rows t n d parts x y first second = elim first [
     | inl a ↦ elim second [
@@ -178,7 +178,7 @@ module _ (g : Graph) (loops : ℕ) where
     ]
   ]
 
-  step_one : (k : ℕ) (rows : List Row) (pending : List Reached) (n : ℕ) (node : Node) (x y : FlawKind) → StepFails g k rows pending n node x →
+  step_one : (k : ℕ) (rows : List Row) (pending : List State) (n : ℕ) (node : Node) (x y : FlawKind) → StepFails g k rows pending n node x →
       StepFails g k rows pending n node y → x ≡ y
   step_one k rows [] n node x y first second = first ∙ sym second
   step_one k rows (t ∷ pending) n (Pair e f) x y first second = first.1 ∙ sym second.1

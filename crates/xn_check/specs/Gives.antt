@@ -22,3 +22,8 @@ GivesVerdict g loops text (Err e) = RefusesText (check_rules g loops) text e
 abbrev pub GivesDrawing : Graph → ℕ → List ℕ → Result Drawing AnswerErr → Type 0
 GivesDrawing g loops text (Ok drawing) = JudgesTo (draw_rules g loops) text (Ok drawing)
 GivesDrawing g loops text (Err e) = RefusesText (draw_rules g loops) text e
+
+-- bounds as they are told, lower and upper
+abbrev pub bounds_in : Result Accepted AnswerErr → Result (ℕ × ℕ) AnswerErr
+bounds_in (Ok a) = Ok (a.lower, a.upper)
+bounds_in (Err e) = Err e

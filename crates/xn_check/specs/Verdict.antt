@@ -4,7 +4,7 @@ use Rattle.xn_model.specs.Graph.{Graph}
 use Rattle.xn_kinds.specs.declared.drawings.Drawing.{Drawing}
 use Rattle.xn_kinds.specs.declared.flaws.Flaw.{Flaw}
 use Rattle.xn_check.specs.Judging.{JudgesTo, Rules}
-use Rattle.xn_check.specs.Meaning.{Agrees, Breaks, FrontAgrees, FrontFails}
+use Rattle.xn_check.specs.Meaning.{Agrees, Breaks, DrawAgrees, DrawBreaks}
 use Rattle.xn_check.specs.FrontSaid.{FrontSaid, drawing_said, front_said, no_front}
 use Rattle.xn_check.specs.Said.{Said, nothing_said, said}
 
@@ -23,8 +23,8 @@ abbrev pub draw_rules : Graph → ℕ → Rules FrontSaid Drawing
 draw_rules g loops = record {
   start = no_front;
   more = front_said;
-  agrees = FrontAgrees g loops;
-  fails = FrontFails g loops;
+  agrees = DrawAgrees g loops;
+  fails = DrawBreaks g loops;
   answer = drawing_said;
 }
 

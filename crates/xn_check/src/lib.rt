@@ -1,6 +1,7 @@
 //! The checker of answers.
 #![tactic(auto)]
 
+mod drawing;
 mod front;
 mod judge;
 pub mod laws;

@@ -3,13 +3,12 @@ ghost use Rattle.xn_check.specs.Gives.{GivesDrawing, GivesVerdict};
 ghost use Rattle.xn_proof.specs.Spelling.{text_of};
 ghost use Rattle.xn_proof.specs.WellFormed.{WellFormed};
 
-use crate::front::DrawingJudge;
+use crate::drawing::DrawJudge;
 use crate::judge::Judge;
-use crate::refusals::refused;
 use std::alloc::Global;
 use xn_graph::Graph;
-use xn_kinds::{Answer, Drawing, FlawKind};
-use xn_proof::{AnswerErr, Forms, write_answer};
+use xn_kinds::{Answer, Drawing};
+use xn_proof::{AnswerErr, write_answer};
 use xn_text::Lines;
 
 /// The bounds of an answer that is accepted.
@@ -32,19 +31,11 @@ pub fn check_text(
     ensures { GivesVerdict graph.now loops text.now result }
 {
     let mut lines = Lines::new(text);
-    let mut forms = Forms::new();
     let mut judge = Judge::new(alloc, graph, loops)?;
-    let mut number = 1;
     while let Some(line) = lines.next() {
-        let item = forms.line(alloc, line.bytes, line.ended)?;
-        judge.item(alloc, number, item)?;
-        number = number.saturating_add(1);
+        judge.line(alloc, line.bytes, line.ended)?;
     }
-    if forms.done() {
-        Ok(judge.accepted())
-    } else {
-        Err(refused(number, FlawKind::Syntax))
-    }
+    judge.finish()
 }
 
 /// The same for an answer, by its spelling.
@@ -72,17 +63,9 @@ pub fn draw_text(
     ensures { GivesDrawing graph.now loops text.now result }
 {
     let mut lines = Lines::new(text);
-    let mut forms = Forms::new();
-    let mut judge = DrawingJudge::new(alloc, graph, loops);
-    let mut number = 1;
+    let mut judge = DrawJudge::new(alloc);
     while let Some(line) = lines.next() {
-        let item = forms.line(alloc, line.bytes, line.ended)?;
-        judge.item(alloc, number, item)?;
-        number = number.saturating_add(1);
+        judge.line(alloc, graph, loops, line.bytes, line.ended)?;
     }
-    if forms.done() {
-        Ok(judge.into_drawing())
-    } else {
-        Err(refused(number, FlawKind::Syntax))
-    }
+    judge.finish()
 }
