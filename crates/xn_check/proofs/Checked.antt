@@ -6,7 +6,6 @@ use Rattle.xn_kinds.specs.Row.{RowHolds}
 use Rattle.xn_kinds.specs.declared.rows.Row.{Row}
 use Rattle.xn_text.specs.Pieces.{lines_of}
 use Rattle.xn_proof.specs.Forms.{Line, Reached, next_at}
-use Rattle.xn_proof.specs.Reading.{Fails}
 use Rattle.xn_proof.specs.declared.flaw.AnswerErr.{AnswerErr}
 use Rattle.xn_proof.specs.declared.item.Item.{Item}
 use Rattle.xn_proof.specs.declared.item.Item.TheVariants as item
@@ -22,7 +21,7 @@ use Rattle.xn_check.specs.Said.{Said}
 use Rattle.xn_check.specs.Verdict.{check_rules}
 use Rattle.xn_check.specs.declared.verdicts.Accepted.{Accepted}
 use Rattle.xn_check.proofs.Fitting.{forms_fit_rows}
-use Rattle.xn_check.proofs.Folds.{Comes, Leads, ends, form_took, item_took, stops, took}
+use Rattle.xn_check.proofs.Folds.{Leads, stops, took}
 use Rattle.xn_check.proofs.FrontPlaces.{line_ready}
 
 -- ---- rows that hold
@@ -60,14 +59,7 @@ module _ (old new : Kept) (line : Line) (x : Item) (later : Reached) (is : next_
   pub rows_fit : MayCome old.rows x
   rows_fit = (forms_fit_rows.next old.at line old.rows x later ready.rows is).0
 
-  -- the judge took it
-  pub line_took : (r : Result (Unit {0}) AnswerErr) → new.at ≡ later → Judged (rules_of old) (said_of old) old.at.0 x (said_of new) r →
-      Took (rules_of old) old.at (said_of old) line new.at (said_of new) r
-  line_took r at judged =
-      subst (λ (l : Reached). Took (rules_of old) old.at (said_of old) line l (said_of new) r) (sym at)
-      (item_took (rules_of old) old.at later (said_of old) (said_of new) line x r is judged)
-
-  -- and is ready for the next one
+  -- the judge is ready for the next one
   pub ready_on : (r : Result (Unit {0}) AnswerErr) → new.at ≡ later → HaveOneTask new old → Judged (rules_of old) (said_of old) old.at.0 x (said_of new) r →
       IfOk r (λ u. IsReady new)
   ready_on (Err e) at task judged = tt
@@ -83,11 +75,6 @@ module _ (old new : Kept) (line : Line) (x : Item) (later : Reached) (is : next_
         rows = subst (λ (l : Reached). RowsFit l.1 new.rows) (sym at) (subst (RowsFit later.1) (sym rows) fits);
         hold = subst (λ (g : Graph). All (RowHolds g) new.rows.whole) (sym task.graph) moved;
       }
-
--- a line that breaks its form
-pub line_broken : (old new : Kept) (line : Line) (e : AnswerErr) → Fails e (next_at old.at line) →
-    Took (rules_of old) old.at (said_of old) line new.at (said_of new) (Err e)
-line_broken old new line e fails = form_took (rules_of old) old.at new.at (said_of old) (said_of new) line e fails
 
 -- ---- all lines
 
@@ -122,12 +109,3 @@ module _ (g : Graph) (loops : ℕ) (text : List ℕ) (kept : Kept) (left : ℕ �
         RefusesText (check_rules g loops) text e
     line_stops e t =
         stops (check_rules g loops) text e kept.at more.at (said_of kept) (said_of more) left after line taken (by_rules (line.1, line.2) more (Err e) t) checked.leads
-
-  told : (r : Result Accepted AnswerErr) → Comes (check_rules g loops) text (bounds_in r) → GivesVerdict g loops text r
-  told (Ok a) comes = comes
-  told (Err e) comes = comes
-
-  -- no line is left
-  pub all_judged : (r : Result Accepted AnswerErr) → lines_of left ≡ [] → bounds_in r ≡ at_end kept.at (kept.front.lower, kept.front.upper) → GivesVerdict g loops text r
-  all_judged r none is =
-      told r (ends (check_rules g loops) text kept.at (said_of kept) left (bounds_in r) none is checked.leads)

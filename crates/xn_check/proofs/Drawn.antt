@@ -1,5 +1,5 @@
 -- The drawing of a text is judged line by line.
-use Rattle.std.proofs.Common.{◌≡◌, ℕ, Bool, List, [], ◌∷◌, IfOk, MatchResult, Result, Ok, Err, sym, subst, ◌∙◌}
+use Rattle.std.proofs.Common.{◌≡◌, ℕ, Bool, List, [], ◌∷◌, Result, Ok, Err, sym, subst, ◌∙◌}
 use Rattle.xn_model.specs.Graph.{Graph}
 use Rattle.xn_kinds.specs.declared.drawings.Drawing.{Drawing}
 use Rattle.xn_text.specs.Pieces.{lines_of}
@@ -9,10 +9,9 @@ use Rattle.xn_proof.specs.declared.item.Item.{Item}
 use Rattle.xn_check.specs.FrontFits.{FrontFits, FrontStands}
 use Rattle.xn_check.specs.FrontSaid.{FrontSaid, drawing_said, front_said}
 use Rattle.xn_check.specs.Gives.{GivesDrawing, RefusesText}
-use Rattle.xn_check.specs.Judging.{RefusesLine, Took, at_end}
-use Rattle.xn_check.specs.Meaning.{DrawAgrees, DrawBreaks}
+use Rattle.xn_check.specs.Judging.{Took, at_end}
 use Rattle.xn_check.specs.Verdict.{draw_rules}
-use Rattle.xn_check.proofs.Folds.{Comes, Leads, ends, item_took, stops, took}
+use Rattle.xn_check.proofs.Folds.{Leads, stops, took}
 use Rattle.xn_check.proofs.FrontPlaces.{line_ready}
 
 -- ---- one line
@@ -23,15 +22,6 @@ module _ (at later : Reached) (f : FrontSaid) (line : Line) (x : Item) (is : nex
 
   pub stands_on : (h : FrontSaid) → h ≡ front_said f x → FrontStands later.1 h
   stands_on h said = subst (FrontStands later.1) (sym said) (line_ready f at line (x, later) is ready).1
-
-  module _ (g : Graph) (loops : ℕ) where
-    -- the line means what it must, and was kept
-    pub kept : (h : FrontSaid) → DrawAgrees g loops f x → h ≡ front_said f x → Took (draw_rules g loops) at f line later h (Ok tt)
-    kept h agrees said = item_took (draw_rules g loops) at later f h line x (Ok tt) is (agrees, said)
-
-    -- it doesn't
-    pub refused : (h : FrontSaid) (e : AnswerErr) → RefusesLine at.0 (DrawBreaks g loops f x) e → Took (draw_rules g loops) at f line later h (Err e)
-    refused h e breaks = item_took (draw_rules g loops) at later f h line x (Err e) is breaks
 
 -- ---- all lines
 
@@ -50,11 +40,3 @@ module _ (g : Graph) (loops : ℕ) (text : List ℕ) (kept : Reached × FrontSai
     -- a line that is refused
     pub line_stops : (e : AnswerErr) → Took (draw_rules g loops) kept.0 kept.1 (line.1, line.2) more.0 more.1 (Err e) → RefusesText (draw_rules g loops) text e
     line_stops e t = stops (draw_rules g loops) text e kept.0 more.0 kept.1 more.1 left after line taken t drawn.leads
-
-  told : (r : Result Drawing AnswerErr) → Comes (draw_rules g loops) text r → GivesDrawing g loops text r
-  told (Ok d) comes = comes
-  told (Err e) comes = comes
-
-  -- no line is left
-  pub all_judged : (r : Result Drawing AnswerErr) → lines_of left ≡ [] → r ≡ at_end kept.0 (drawing_said kept.1) → GivesDrawing g loops text r
-  all_judged r none is = told r (ends (draw_rules g loops) text kept.0 kept.1 left r none is drawn.leads)

@@ -1,6 +1,8 @@
 -- What the lines of an answer up to `drawn` said so far, as far as later lines are judged by it.
 use Rattle.std.specs.Prelude.{ℕ, List, [], ◌∷◌, ◌++◌}
 use Rattle.xn_model.specs.Graph.{Graph}
+use Rattle.xn_draw.specs.Seen.{seen_of}
+use Rattle.xn_draw.specs.declared.results.Seen.{Seen}
 use Rattle.xn_kinds.specs.declared.drawings.Drawing.{Drawing}
 use Rattle.xn_proof.specs.declared.item.Item.{Item}
 use Rattle.xn_proof.specs.declared.item.Item.TheVariants as item
@@ -39,3 +41,25 @@ drawing_said f = record { orders = f.lists; next = f.next }
 abbrev pub front_kept : ℕ → List (ℕ × ℕ) → ℕ → ℕ → Drawing → FrontSaid
 front_kept nodes ends lower upper drawing =
     record { nodes = nodes; ends = ends; lower = lower; upper = upper; lists = drawing.orders; next = drawing.next }
+
+-- ---- with what is seen of the drawing
+
+pub record FrontSeen : Type 0 where
+  pub front : FrontSaid
+  -- what is seen of the drawing, once it is drawn
+  pub seen : Seen
+
+abbrev pub seeing : FrontSaid → Seen → FrontSeen
+seeing f seen = record { front = f; seen = seen }
+
+-- before the line `drawn`
+abbrev pub no_seen : Seen
+no_seen = record { crossings = 0; euler = record { v = 0; e = 0; f = 0; c = 0 } }
+
+-- what is seen with one line more: at `drawn` the drawing is that of the graph that was said
+abbrev pub seen_at : FrontSeen → Item → Seen
+seen_at s item.Drawn = seen_of (graph_said s.front) s.front.lists s.front.next
+seen_at s line = s.seen
+
+abbrev pub front_seen : FrontSeen → Item → FrontSeen
+front_seen s line = record { front = front_said s.front line; seen = seen_at s line }

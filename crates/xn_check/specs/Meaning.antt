@@ -22,7 +22,7 @@ use Rattle.xn_proof.specs.declared.item.Item.{Item}
 use Rattle.xn_proof.specs.declared.item.Item.TheVariants as item
 use Rattle.xn_rows.specs.Holding.{IsRowFlaw}
 use Rattle.xn_tree.specs.Walk.{Fits}
-use Rattle.xn_check.specs.FrontSaid.{FrontSaid}
+use Rattle.xn_check.specs.FrontSaid.{FrontSaid, graph_said}
 use Rattle.xn_check.specs.RowsSaid.{row_by_list, row_by_path}
 use Rattle.xn_check.specs.Said.{Said}
 
@@ -36,16 +36,25 @@ HasDrawing g f = IsListedDrawing g f.lists f.next
 abbrev pub crossings_said : Graph → FrontSaid → ℕ
 crossings_said g f = crossing_count g (order_of g f.lists)
 
--- they are one with as many crossings as is said, of which this is seen
-abbrev pub IsDrawn : Graph → FrontSaid → Seen → Type 0
-IsDrawn g f seen = HasDrawing g f × (f.upper ≡ crossings_said g f) × (seen ≡ seen_of g f.lists f.next)
+-- they are one with as many crossings as is said
+abbrev pub IsDrawn : Graph → FrontSaid → Type 0
+IsDrawn g f = HasDrawing g f × (f.upper ≡ crossings_said g f)
 
--- the line means what it must; a later line may mean anything
+-- the same, and this is seen of it
+abbrev pub IsSeenAs : Graph → FrontSaid → Seen → Type 0
+IsSeenAs g f seen = IsDrawn g f × (seen ≡ seen_of g f.lists f.next)
+
+-- the line means what it must by itself: the drawing is one of the graph that was said
+abbrev pub FrontAgrees : FrontSaid → Item → Type 0
+FrontAgrees f item.Drawn = IsDrawn (graph_said f) f
+FrontAgrees f line = Unit {0}
+
+-- the line means what it must for a graph and so many loops; a later line may mean anything
 abbrev pub DrawAgrees : Graph → ℕ → FrontSaid → Item → Type 0
 DrawAgrees g loops f (item.Graph nodes edges) = (nodes ≡ g.nodes) × (edges ≡ length g.ends)
 DrawAgrees g loops f (item.Loops l) = l ≡ loops
 DrawAgrees g loops f (item.Edge u v) = (u, v) ≡ ends_at g.ends (length f.ends)
-DrawAgrees g loops f item.Drawn = HasDrawing g f × (f.upper ≡ crossings_said g f)
+DrawAgrees g loops f item.Drawn = IsDrawn g f
 DrawAgrees g loops f line = Unit {0}
 
 -- ---- what has to be: all lines
@@ -72,6 +81,11 @@ DrawnFails g f kind =
     ⊎ (HasDrawing g f × (f.upper ≢ crossings_said g f) × (kind ≡ kinds.Count f.upper (crossings_said g f)))
 
 -- the line means something else, and this is wrong with it
+abbrev pub FrontBreaks : FrontSaid → Item → FlawKind → Type 0
+FrontBreaks f item.Drawn kind = DrawnFails (graph_said f) f kind
+FrontBreaks f line kind = ⊥
+
+-- the same for a graph and so many loops
 abbrev pub DrawBreaks : Graph → ℕ → FrontSaid → Item → FlawKind → Type 0
 DrawBreaks g loops f (item.Graph nodes edges) kind = (¬ ((nodes ≡ g.nodes) × (edges ≡ length g.ends))) × (kind ≡ kinds.SizeDiffers)
 DrawBreaks g loops f (item.Loops l) kind = (l ≢ loops) × (kind ≡ kinds.SizeDiffers)

@@ -3,9 +3,9 @@ ghost use Rattle.std.specs.Prelude.{◌≡◌, ◌≢◌, ◌↔◌, ◌<◌, �
 ghost use Rattle.xn_model.specs.Graph.{ends_at};
 ghost use Rattle.xn_graph.specs.Limits.{IsEdge};
 ghost use Rattle.xn_check.specs.FrontFits.{FrontFits};
-ghost use Rattle.xn_check.specs.FrontSaid.{drawing_said, front_said, no_front};
+ghost use Rattle.xn_check.specs.FrontSaid.{drawing_said, front_said, graph_said, no_front};
 ghost use Rattle.xn_check.specs.Judging.{RefusesLine};
-ghost use Rattle.xn_check.specs.Meaning.{DrawAgrees, DrawBreaks, DrawnFails, IsDrawn};
+ghost use Rattle.xn_check.specs.Meaning.{DrawAgrees, DrawBreaks, DrawnFails, IsSeenAs};
 
 use crate::refusals::refused;
 use std::alloc::{AllocError, Global};
@@ -118,7 +118,7 @@ impl FrontPart {
     /// What is seen of the drawing of a graph, at the line `drawn` with this number: it has to be one with as many crossings as
     /// is said.
     pub fn seen(&self, alloc: Global, graph: &Graph, number: u64) -> Result<Seen, AnswerErr>
-        ensures { MatchResult result (IsDrawn graph.now self.now) (RefusesLine number (DrawnFails graph.now self.now)) }
+        ensures { MatchResult result (IsSeenAs graph.now self.now) (RefusesLine number (DrawnFails graph.now self.now)) }
     {
         let seen = match examine(alloc, graph, &self.drawing) {
             Ok(seen) => seen,
@@ -146,6 +146,16 @@ impl FrontPart {
         ensures { result ≡ self.now.upper }
     {
         self.upper
+    }
+
+    /// The graph that was said. It fails only for want of memory.
+    pub fn graph(&self, alloc: Global) -> Result<Graph, AllocError>
+        ensures { IfOk result (λ g. g ≡ graph_said self.now) }
+    {
+        match Graph::make(self.nodes, Vec::from_slice(alloc, self.ends.as_slice())?) {
+            Ok(graph) => Ok(graph),
+            Err(_) => unreachable!(),
+        }
     }
 
     /// The drawing that was said.

@@ -1,11 +1,13 @@
 // The verdict on a text, line by line.
-ghost use Rattle.xn_check.specs.Gives.{GivesDrawing, GivesVerdict};
+ghost use Rattle.xn_check.specs.Gives.{GivesDrawing, GivesSeen, GivesVerdict};
 ghost use Rattle.xn_proof.specs.Spelling.{text_of};
 ghost use Rattle.xn_proof.specs.WellFormed.{WellFormed};
 
 use crate::drawing::DrawJudge;
 use crate::judge::Judge;
+use crate::seeing::FrontJudge;
 use std::alloc::Global;
+use xn_draw::Seen;
 use xn_graph::Graph;
 use xn_kinds::{Answer, Drawing};
 use xn_proof::{AnswerErr, write_answer};
@@ -66,6 +68,20 @@ pub fn draw_text(
     let mut judge = DrawJudge::new(alloc);
     while let Some(line) = lines.next() {
         judge.line(alloc, graph, loops, line.bytes, line.ended)?;
+    }
+    judge.finish()
+}
+
+/// What is seen of the drawing of a text that is an answer, whatever its graph, or the first line whose rule fails. The drawing is
+/// judged as one of the graph that the text says; the rows and the tree keep their forms, and whether they prove anything isn't
+/// judged.
+pub fn examine_text(alloc: Global, text: &[u8]) -> Result<Seen, AnswerErr>
+    ensures { GivesSeen text.now result }
+{
+    let mut lines = Lines::new(text);
+    let mut judge = FrontJudge::new(alloc);
+    while let Some(line) = lines.next() {
+        judge.line(alloc, line.bytes, line.ended)?;
     }
     judge.finish()
 }
