@@ -1,12 +1,12 @@
--- The graph of a text is a graph, with one id for each node.
-use Rattle.std.proofs.Common.{◌≡◌, ◌≢◌, ℕ, ℤ, ◌+◌, ◌<◌, Bool, true, false, cond, eqb, ltb, List, [], ◌∷◌, ◌++◌, length, All, Option, None, Some, IfSome, Result, Ok, Err, refl, subst, arith, eq-eqb}
-use Rattle.std.proofs.lemmas.Bool.{both_ways}
+-- The graph of a text is a graph within the limits, with one id for each node.
+use Rattle.std.proofs.Common.{◌≡◌, ◌≢◌, ℕ, ℤ, ◌+◌, ◌<◌, ◌≤◌, Bool, true, false, cond, eqb, ltb, List, [], ◌∷◌, ◌++◌, length, All, Option, None, Some, IfSome, Result, Ok, Err, refl, subst, arith, eq-eqb}
+use Rattle.std.proofs.lemmas.Bool.{both_ways, ltb-true}
+use Rattle.std.proofs.lemmas.List.{length_push}
 use Rattle.std.proofs.lemmas.List.Elements.{All-push}
 use Rattle.std.proofs.lemmas.Map.Views.{IfSome-lookup_from_All}
 use Rattle.std.specs.Map.{values_of}
 use Rattle.std.specs.Ordering.{int_eq}
-use Rattle.xn_model.specs.Graph.{IsGraph}
-use Rattle.xn_graph.specs.Limits.{HasNodes, IsEdge}
+use Rattle.xn_graph.specs.Limits.{HasNodes, IsEdge, IsLimitedGraph}
 use Rattle.xn_graph.proofs.Ends.{IsGraph-from_each}
 use Rattle.xn_gml.specs.Meaning.{Edges, Found, edges_from, found, graph_in, graph_of_text, graph_within, ids_from, integer_at, known, list_of, new_id, no_edges, nodes_of, number_of, values_of as ends_of, with_block, with_edge}
 use Rattle.xn_gml.specs.Reading.{◌>>=◌}
@@ -57,6 +57,20 @@ ids_numbered (block ∷ blocks) ids all numbered e =
     let more = ids ++ (b.0, length ids) ∷ [] in
     ids_numbered blocks more all (numbered_push ids more b.0 (length ids) refl refl numbered) b.2
 
+ids_few : (blocks : List Pair) (ids all : List (ℤ × ℕ)) → length ids ≤ 1000 → ids_from 1000 ids blocks ≡ Ok all → length all ≤ 1000
+unfolding ids_from
+ids_few [] ids all few e = subst (λ (xs : List (ℤ × ℕ)). length xs ≤ 1000) (ok_is ids all e) few
+ids_few (block ∷ blocks) ids all few e =
+    let b = bind_ok (cond (ltb (length ids) 1000) (new_id ids block) (Err gml.TooManyNodes)) (λ id. ids_from 1000 (ids ++ (id, length ids) ∷ []) blocks) all e in
+    let longer = length_push ids (b.0, length ids) in
+    let room = has_room (ltb (length ids) 1000) (new_id ids block) b.0 b.1 in
+    let low = ltb-true (length ids) 1000 room in
+    ids_few blocks (ids ++ (b.0, length ids) ∷ []) all (omega (arith, longer, low)) b.2
+  where
+    has_room : (few : Bool) (id : Result ℤ GmlErr) (x : ℤ) → cond few id (Err gml.TooManyNodes) ≡ Ok x → few ≡ true
+    has_room true id x is = refl
+    has_room false id x is = absurd cc
+
 known_below : (at : ℕ) (number : Option ℕ) (k n : ℕ) → IfSome number (λ m. m < k) → known at number ≡ Ok n → n < k
 known_below at None k n below e = absurd cc
 known_below at (Some m) k n below e = subst (λ (x : ℕ). x < k) (ok_is m n e) below
@@ -75,43 +89,60 @@ ends_inside ids values p numbered e =
 
 -- ---- edges
 
-loop_or_edge : (k : ℕ) (edges more : Edges) (p : ℕ × ℕ) (same few : Bool) → (same ≡ false → p.0 ≢ p.1) → HasNodes k p → All (IsEdge k) edges.ends →
-    cond same (Ok (record { ends = edges.ends; loops = edges.loops + 1 })) (cond few (Ok (record { ends = edges.ends ++ p ∷ []; loops = edges.loops })) (Err gml.TooManyEdges)) ≡ Ok more →
-    All (IsEdge k) more.ends
-loop_or_edge k edges more p true few apart inside all e =
-    subst (λ (x : Edges). All (IsEdge k) x.ends) (ok_is (record { ends = edges.ends; loops = edges.loops + 1 }) more e) all
-loop_or_edge k edges more p false true apart inside all e =
-    subst (λ (x : Edges). All (IsEdge k) x.ends) (ok_is (record { ends = edges.ends ++ p ∷ []; loops = edges.loops }) more e)
-    (All-push (IsEdge k) edges.ends p all (inside.0, inside.1, apart refl))
-loop_or_edge k edges more p false false apart inside all e = absurd cc
+-- each is an edge of k nodes, and they are no more than a graph may have
+pub record AreEdges (k : ℕ) (es : List (ℕ × ℕ)) : Type 0 where
+  pub each : All (IsEdge k) es
+  pub few : length es ≤ 1000
 
-edge_inside : (k : ℕ) (edges more : Edges) (p : ℕ × ℕ) → HasNodes k p → All (IsEdge k) edges.ends → with_edge 1000 edges p ≡ Ok more → All (IsEdge k) more.ends
+no_edge : (k : ℕ) → AreEdges k []
+no_edge k = record { each = λ i d low. absurd (omega (arith, low)); few = omega arith }
+
+loop_or_edge : (k : ℕ) (edges more : Edges) (p : ℕ × ℕ) (same few : Bool) → (same ≡ false → p.0 ≢ p.1) → (few ≡ true → length edges.ends < 1000) →
+    HasNodes k p → AreEdges k edges.ends →
+    cond same (Ok (record { ends = edges.ends; loops = edges.loops + 1 })) (cond few (Ok (record { ends = edges.ends ++ p ∷ []; loops = edges.loops })) (Err gml.TooManyEdges)) ≡ Ok more →
+    AreEdges k more.ends
+loop_or_edge k edges more p true few apart room inside all e =
+    subst (λ (x : Edges). AreEdges k x.ends) (ok_is (record { ends = edges.ends; loops = edges.loops + 1 }) more e) all
+loop_or_edge k edges more p false true apart room inside all e =
+    let longer = length_push edges.ends p in
+    let low = room refl in
+    subst (λ (x : Edges). AreEdges k x.ends) (ok_is (record { ends = edges.ends ++ p ∷ []; loops = edges.loops }) more e)
+    (record { each = All-push (IsEdge k) edges.ends p all.each (inside.0, inside.1, apart refl); few = omega (arith, longer, low) })
+loop_or_edge k edges more p false false apart room inside all e = absurd cc
+
+edge_inside : (k : ℕ) (edges more : Edges) (p : ℕ × ℕ) → HasNodes k p → AreEdges k edges.ends → with_edge 1000 edges p ≡ Ok more → AreEdges k more.ends
 unfolding with_edge
 edge_inside k edges more p inside all e =
-    loop_or_edge k edges more p (eqb p.0 p.1) (ltb (length edges.ends) 1000) (λ test is. both_ways (eqb p.0 p.1) test (eq-eqb p.0 p.1 is)) inside all e
+    loop_or_edge k edges more p (eqb p.0 p.1) (ltb (length edges.ends) 1000) (λ test is. both_ways (eqb p.0 p.1) test (eq-eqb p.0 p.1 is))
+    (ltb-true (length edges.ends) 1000) inside all e
 
-block_inside : (ids : List (ℤ × ℕ)) (edges more : Edges) (block : Pair) → AreNumbered ids → All (IsEdge (length ids)) edges.ends → with_block 1000 ids edges block ≡ Ok more → All (IsEdge (length ids)) more.ends
+block_inside : (ids : List (ℤ × ℕ)) (edges more : Edges) (block : Pair) → AreNumbered ids → AreEdges (length ids) edges.ends → with_block 1000 ids edges block ≡ Ok more → AreEdges (length ids) more.ends
 unfolding with_block
 block_inside ids edges more block numbered all e =
     let v = bind_ok (ends_of block) (λ values. nodes_of ids values >>= λ p. with_edge 1000 edges p) more e in
     let p = bind_ok (nodes_of ids v.0) (with_edge 1000 edges) more v.2 in
     edge_inside (length ids) edges more p.0 (ends_inside ids v.0 p.0 numbered p.1) all p.2
 
-edges_inside : (blocks : List Pair) (ids : List (ℤ × ℕ)) (edges more : Edges) → AreNumbered ids → All (IsEdge (length ids)) edges.ends → edges_from 1000 ids edges blocks ≡ Ok more → All (IsEdge (length ids)) more.ends
+edges_inside : (blocks : List Pair) (ids : List (ℤ × ℕ)) (edges more : Edges) → AreNumbered ids → AreEdges (length ids) edges.ends → edges_from 1000 ids edges blocks ≡ Ok more → AreEdges (length ids) more.ends
 unfolding edges_from
-edges_inside [] ids edges more numbered all e = subst (λ (x : Edges). All (IsEdge (length ids)) x.ends) (ok_is edges more e) all
+edges_inside [] ids edges more numbered all e = subst (λ (x : Edges). AreEdges (length ids) x.ends) (ok_is edges more e) all
 edges_inside (block ∷ blocks) ids edges more numbered all e =
     let b = bind_ok (with_block 1000 ids edges block) (λ next. edges_from 1000 ids next blocks) more e in
     edges_inside blocks ids b.0 more numbered (block_inside ids edges b.0 block numbered all b.1) b.2
 
 -- ---- the whole
 
-pub graph_is : (text : List ℕ) (f : Found) → graph_of_text text ≡ Ok f → IsGraph f.graph
-graph_is text f e =
+pub limited : (text : List ℕ) (f : Found) → graph_of_text text ≡ Ok f → IsLimitedGraph f.graph
+limited text f e =
     let p = parts text f e in
     let numbered = ids_numbered (lists_of key.Node p.list) [] p.ids (λ i d low. absurd (omega (arith, low))) p.ids_are in
-    let inside = edges_inside (lists_of key.Edge p.list) p.ids no_edges p.edges numbered (λ i d low. absurd (omega (arith, low))) p.edges_are in
-    subst (λ (x : Found). IsGraph x.graph) p.made (IsGraph-from_each (length p.ids) p.edges.ends (λ i below. inside i (0, 0) below))
+    let few = ids_few (lists_of key.Node p.list) [] p.ids (omega arith) p.ids_are in
+    let inside = edges_inside (lists_of key.Edge p.list) p.ids no_edges p.edges numbered (no_edge (length p.ids)) p.edges_are in
+    subst (λ (x : Found). IsLimitedGraph x.graph) p.made (record {
+      is_graph = IsGraph-from_each (length p.ids) p.edges.ends (λ i below. inside.each i (0, 0) below);
+      few_nodes = few;
+      few_edges = inside.few;
+    })
 
 -- there are as many ids as nodes
 pub ids_fit : (text : List ℕ) (f : Found) → graph_of_text text ≡ Ok f → length f.ids ≡ f.graph.nodes

@@ -1,19 +1,28 @@
 -- What an end says of the files, and of what was written.
-use Rattle.std.specs.Prelude.{◌≡◌, ◌⊎◌, ℕ, List, [], Option, Ok}
+use Rattle.std.specs.Prelude.{◌≡◌, ◌⊎◌, ℕ, List, [], IfSome, Option, Ok}
 use Rattle.std.specs.Io.KnownBytes.{Appends}
+use Rattle.std.specs.Map.{keys_of}
 use Rattle.xn_io.specs.Causes.{Rose}
+use Rattle.xn_io.specs.Input.{Files}
 use Rattle.xn_io.specs.Sink.{TakesPart}
 use Rattle.xn_model.specs.Drawing.{IsAtMost, IsAtLeast}
-use Rattle.xn_check.specs.Verdict as checking
+use Rattle.xn_check.specs.Laws.{SpellsDrawing, SpellsFront}
 use Rattle.xn_draw.specs.declared.results.Seen.{Seen}
 use Rattle.xn_gml.specs.Meaning.{Found, graph_of_text}
+use Rattle.xn_graph.specs.Limits.{IsLimitedGraph}
+use Rattle.xn_kinds.specs.declared.drawings.Drawing.{Drawing}
+use Rattle.xn_show.specs.Text.{show_text}
+use Rattle.xn_command.specs.Request.{Request}
 use Rattle.xn_app.specs.declared.status.Limit.TheVariants.{Bytes}
 use Rattle.xn_app.specs.declared.status.Status.{Status}
 use Rattle.xn_app.specs.declared.status.Status.TheVariants.{Words, Limit, Read, Write, Memory}
 use Rattle.xn_app.specs.Files.{EndsReading}
 use Rattle.xn_app.specs.Outcome.{Outcome}
 use Rattle.xn_app.specs.Output.{accepted_line, seen_line}
-use Rattle.xn_app.specs.Verdict.{SpellsDrawing}
+
+-- this holds of what is asked and of the files, where words ask for something and the files are told
+abbrev pub Told : Option Request → Option Files → (Request → Files → Type 0) → Type 0
+Told asked told P = IfSome asked (λ r. IfSome told (P r))
 
 -- this end has an outcome, whose bytes were written
 pub record Wrote (Comes : Outcome → Type 0) (status : Status) (old new : Option (List ℕ)) : Type 0 where
@@ -45,19 +54,29 @@ abbrev pub Finishes : Status → List ℕ → Option (List ℕ) → Option (List
 Finishes status output old new before after result =
     ((result ≡ status) × Appends old new output) ⊎ ((result ≡ Write) × TakesPart old new output × Rose before after)
 
--- a text was accepted as an answer for the graph of another, and its bounds were written
-pub record SaysBounds (graph_text text : List ℕ) (old new : Option (List ℕ)) : Type 0 where
+-- the text of a graph has this one, its crossing number lies between the two numbers, and they were written
+pub record SaysBounds (graph_text : List ℕ) (old new : Option (List ℕ)) : Type 0 where
   pub found : Found
   pub graph_is : graph_of_text graph_text ≡ Ok found
+  pub is_graph : IsLimitedGraph found.graph
   pub lower : ℕ
   pub upper : ℕ
-  pub accepted : checking.Verdict found.graph found.loops text (Ok (lower, upper))
   pub least : IsAtLeast found.graph lower
   pub at_most : IsAtMost found.graph upper
   pub written : Appends old new (accepted_line (lower, upper))
 
+-- the text of a graph has this one, the other text is the spelling of an answer for it with a drawing, and what shows the drawing
+-- was written
+pub record SaysShown (graph_text text : List ℕ) (old new : Option (List ℕ)) : Type 0 where
+  pub found : Found
+  pub graph_is : graph_of_text graph_text ≡ Ok found
+  pub is_graph : IsLimitedGraph found.graph
+  pub drawing : Drawing
+  pub spelled : SpellsDrawing found.graph found.loops text drawing
+  pub written : Appends old new (show_text found.graph (keys_of found.ids) drawing)
+
 -- the text is the spelling of an answer with a drawing, and what is seen of it was written
 pub record SaysDrawing (text : List ℕ) (old new : Option (List ℕ)) : Type 0 where
   pub seen : Seen
-  pub drawing : SpellsDrawing text seen
+  pub spelled : SpellsFront text seen
   pub written : Appends old new (seen_line seen)

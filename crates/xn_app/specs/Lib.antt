@@ -1,7 +1,6 @@
 pub mod Ends
 pub mod Files
-pub mod Laws
 pub mod Outcome
 pub mod Output
 pub mod Status
-pub mod Verdict
+pub mod Texts

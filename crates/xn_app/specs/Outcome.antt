@@ -1,7 +1,7 @@
 -- What a command comes to: its end, and the bytes that belong to it.
 use Rattle.std.specs.Prelude.{◌≡◌, ℕ, List, [], Result, Ok, Err}
 use Rattle.std.specs.Map.{keys_of}
-use Rattle.xn_check.specs.Verdict as checking
+use Rattle.xn_check.specs.Verdict.{DrawVerdict, FrontVerdict, Verdict}
 use Rattle.xn_gml.specs.Meaning.{Found, graph_of_text}
 use Rattle.xn_gml.specs.declared.errors.GmlErr.{GmlErr}
 use Rattle.xn_gml.specs.declared.errors.GmlErr.TheVariants as gml
@@ -11,7 +11,6 @@ use Rattle.xn_proof.specs.Refusal.{flaw_line}
 use Rattle.xn_show.specs.Text.{show_text}
 use Rattle.xn_command.specs.Request.{Request, check, draw, examine}
 use Rattle.xn_app.specs.Output.{accepted_line, seen_line}
-use Rattle.xn_app.specs.Verdict.{Verdict}
 use Rattle.xn_app.specs.declared.status.Limit.TheVariants.{Edges, Nodes}
 use Rattle.xn_app.specs.declared.status.Status.{Status}
 use Rattle.xn_app.specs.declared.status.Status.TheVariants.{Done, Graph, Limit, Memory, Refused}
@@ -45,13 +44,13 @@ OnGraph (Err e) Rest outcome = outcome ≡ (refused_graph e, [])
 
 -- what the text of an answer comes to by itself, where a graph was read, and where it is to be shown
 abbrev pub Examined : List ℕ → Outcome → Type 0
-Examined text outcome = IsJudged (Verdict text) seen_line outcome
+Examined text outcome = IsJudged (FrontVerdict text) seen_line outcome
 
 abbrev pub Checked : List ℕ → Found → Outcome → Type 0
-Checked text found outcome = IsJudged (checking.Verdict found.graph found.loops text) accepted_line outcome
+Checked text found outcome = IsJudged (Verdict found.graph found.loops text) accepted_line outcome
 
 abbrev pub Drawn : List ℕ → Found → Outcome → Type 0
-Drawn text found outcome = IsJudged (checking.DrawVerdict found.graph found.loops text) (show_text found.graph (keys_of found.ids)) outcome
+Drawn text found outcome = IsJudged (DrawVerdict found.graph found.loops text) (show_text found.graph (keys_of found.ids)) outcome
 
 -- what is asked comes to this, with these files
 abbrev pub ComesTo : Files → Request → Outcome → Type 0

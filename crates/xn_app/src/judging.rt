@@ -3,12 +3,11 @@ ghost use Rattle.std.specs.Prelude.{◌≡◌, IfOk, length};
 ghost use Rattle.xn_gml.specs.ReadView.{found_in};
 ghost use Rattle.xn_app.specs.Outcome.{Checked, Drawn, Examined};
 
-use crate::examine::examine_text;
 use crate::output::{accepted_line, seen_line};
 use crate::status::Status;
 use std::alloc::{AllocError, Global};
 use xn_check::laws::drawn_texts;
-use xn_check::{check_text, draw_text};
+use xn_check::{check_text, draw_text, examine_text};
 use xn_gml::Read;
 use xn_proof::{AnswerErr, write_flaw};
 use xn_show::show;

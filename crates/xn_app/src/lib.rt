@@ -1,15 +1,16 @@
-//! The program, over whatever input and sink it is given: reading the words and the files, judging an answer, writing.
+//! The program, over whatever input and sink it is given: reading the words and the files, judging an answer, writing. And the
+//! same on the system that it runs on.
 #![tactic(auto)]
 
-mod examine;
 mod files;
 mod judging;
-pub mod laws;
 mod output;
 mod status;
+mod system;
 mod top_call;
 
 pub use status::{Limit, Status};
+pub use system::start;
 pub use top_call::top;
 pub use xn_command::{Command, WordsErr, read_words};
 

@@ -2,6 +2,7 @@
 ghost use Rattle.std.specs.Prelude.{◌≡◌};
 ghost use Rattle.xn_app.specs.Outcome.{refused_graph};
 ghost use Rattle.xn_app.specs.Status.{code_of, status_of_read};
+ghost use Rattle.xn_app.specs.Texts.{graph_offset_of, graph_text_of, offset_of, text_of};
 ghost use Rattle.xn_app.specs.declared.status.Status.TheVariants.{Memory};
 
 use std::alloc::AllocError;
@@ -56,6 +57,68 @@ impl Status {
             Status::Write => 7,
             Status::Memory => 8,
         }
+    }
+
+    /// What is said of the end on standard error, but for an offset that follows it. It is empty where the end is told on
+    /// standard output.
+    pub fn text(&self) -> &'static str
+        ensures { result.now ≡ text_of self.now }
+    {
+        match self {
+            Status::Done | Status::Refused(_) => "",
+            Status::Words => "xnum: the words are not a command of this program",
+            Status::Graph(error) => graph_text(*error),
+            Status::Limit(Limit::Nodes) => "xnum: more than 1000 nodes",
+            Status::Limit(Limit::Edges) => "xnum: more than 1000 edges",
+            Status::Limit(Limit::Bytes) => "xnum: too many bytes",
+            Status::Read => "xnum: a read failed",
+            Status::Write => "xnum: a write failed",
+            Status::Memory => "xnum: no memory",
+        }
+    }
+
+    /// The offset in the text of the graph's file at which it is refused, if there is one.
+    pub fn offset(&self) -> Option<u64>
+        ensures { result ≡ offset_of self.now }
+    {
+        match self {
+            Status::Graph(error) => graph_offset(*error),
+            _ => None,
+        }
+    }
+}
+
+// Why a text has no graph; where that has an offset, it follows.
+fn graph_text(error: GmlErr) -> &'static str
+    ensures { result.now ≡ graph_text_of error }
+{
+    match error {
+        GmlErr::Syntax(_) => "xnum: graph text refused: syntax at ",
+        GmlErr::Deep(_) => "xnum: graph text refused: deep at ",
+        GmlErr::NoGraph => "xnum: graph text refused: no graph",
+        GmlErr::SecondGraph(_) => "xnum: graph text refused: second graph at ",
+        GmlErr::NoId(_) => "xnum: graph text refused: no id at ",
+        GmlErr::Repeated(_) => "xnum: graph text refused: repeated at ",
+        GmlErr::Unknown(_) => "xnum: graph text refused: unknown at ",
+        GmlErr::Range(_) => "xnum: graph text refused: range at ",
+        GmlErr::TooManyNodes => "xnum: more than 1000 nodes",
+        GmlErr::TooManyEdges => "xnum: more than 1000 edges",
+        GmlErr::Memory => "xnum: no memory",
+    }
+}
+
+fn graph_offset(error: GmlErr) -> Option<u64>
+    ensures { result ≡ graph_offset_of error }
+{
+    match error {
+        GmlErr::Syntax(at)
+        | GmlErr::Deep(at)
+        | GmlErr::SecondGraph(at)
+        | GmlErr::NoId(at)
+        | GmlErr::Repeated(at)
+        | GmlErr::Unknown(at)
+        | GmlErr::Range(at) => Some(at),
+        GmlErr::NoGraph | GmlErr::TooManyNodes | GmlErr::TooManyEdges | GmlErr::Memory => None,
     }
 }
 

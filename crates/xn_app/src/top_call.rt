@@ -3,9 +3,9 @@ ghost use Rattle.std.specs.Prelude.{◌≡◌, ◌⊎◌, List, ℕ, Some, IfOk,
 ghost use Rattle.xn_io.specs.Causes.{Rose};
 ghost use Rattle.xn_io.specs.Input.{bytes_of};
 ghost use Rattle.xn_command.specs.Gives.{request_of_command, words_request};
-ghost use Rattle.xn_command.specs.Request.{check, examine};
-ghost use Rattle.xn_app.specs.Ends.{Finishes, Quits, Ran, SaysBounds, SaysDrawing};
-ghost use Rattle.xn_app.specs.Files.{IsBegun, IsFine, Shows, answer_of};
+ghost use Rattle.xn_command.specs.Request.{check, draw, examine};
+ghost use Rattle.xn_app.specs.Ends.{Finishes, Quits, Ran, SaysBounds, SaysDrawing, SaysShown, Told};
+ghost use Rattle.xn_app.specs.Files.{IsBegun, IsFine, IsInMemory, Shows, answer_of};
 ghost use Rattle.xn_app.specs.Outcome.{ComesTo, Outcome};
 ghost use Rattle.xn_app.specs.Status.{IsAside, IsEarly, IsJudgedEnd, IsSilent, IsStarted, IsVerdictEnd};
 
@@ -13,7 +13,7 @@ use crate::files::{read_both, read_file};
 use crate::judging::{checked, drawn, examined};
 use crate::status::Status;
 use std::alloc::Global;
-use xn_check::laws::{accepted_bounds, one_outcome};
+use xn_check::laws::{accepted_bounds, drawn_texts, one_outcome, seen_texts};
 use xn_command::{Command, WordsErr, read_words};
 use xn_io::{Input, Sink, write_all};
 
@@ -28,19 +28,24 @@ pub fn top<I: Input, K: Sink>(alloc: Global, words: &[String], input: &mut I, ou
     ensures words { IfSome (words_request words.now) (λ asked. (result ≡ Status.Words) → ⊥) }
 
     // The end is one that the files lead to, or one of a fault, of a file of too many bytes, or of want of memory.
-    ensures ran { IfSome (words_request words.now) (λ asked. IfSome (I.told input.old)
-        (λ files. Ran (ComesTo files asked) result (K.taken out.old) (K.taken out.new))) }
+    ensures ran { Told (words_request words.now) (I.told input.old)
+        (λ asked files. Ran (ComesTo files asked) result (K.taken out.old) (K.taken out.new)) }
 
     // And where the files lead to an end, it is this one, but for those.
-    ensures exact { IfSome (words_request words.now) (λ asked. IfSome (I.told input.old)
-        (λ files. (outcome : Outcome) → ComesTo files asked outcome → IsAside result ⊎ (result ≡ outcome.0))) }
+    ensures exact { Told (words_request words.now) (I.told input.old)
+        (λ asked files. (outcome : Outcome) → ComesTo files asked outcome → IsAside result ⊎ (result ≡ outcome.0)) }
 
-    // What Done means: an accepted answer, whatever it is, bounds the crossing number of its graph from both sides.
+    // What Done means: an accepted answer, whatever it is, bounds the crossing number of its graph from both sides; what is
+    // examined or shown is a drawing.
     ensures bounds { (graph answer : List ℕ) → words_request words.now ≡ Some (check graph answer) → result ≡ Status.Done
         → IfSome (I.told input.old)
-        (λ files. SaysBounds (bytes_of files graph) (bytes_of files answer) (K.taken out.old) (K.taken out.new)) }
+        (λ files. SaysBounds (bytes_of files graph) (K.taken out.old) (K.taken out.new)) }
     ensures drawing { (answer : List ℕ) → words_request words.now ≡ Some (examine answer) → result ≡ Status.Done
         → IfSome (I.told input.old) (λ files. SaysDrawing (bytes_of files answer) (K.taken out.old) (K.taken out.new)) }
+
+    ensures shown { (graph answer : List ℕ) → words_request words.now ≡ Some (draw graph answer) → result ≡ Status.Done
+        → IfSome (I.told input.old)
+        (λ files. SaysShown (bytes_of files graph) (bytes_of files answer) (K.taken out.old) (K.taken out.new)) }
 
     // What the input and the sink show at the end.
     ensures shows { Shows (I.told input.old) (I.name input.new) (I.faults input.old) (I.faults input.new)
@@ -51,7 +56,9 @@ pub fn top<I: Input, K: Sink>(alloc: Global, words: &[String], input: &mut I, ou
     ensures untouched { IsSilent result → (K.taken out.new ≡ K.taken out.old) × (K.faults out.new ≡ K.faults out.old) }
 {
     accepted_bounds();
+    drawn_texts();
     one_outcome();
+    seen_texts();
     let command = match read_words(alloc, words) {
         Ok(command) => command,
         Err(WordsErr::Refused) => return Status::Words,
@@ -71,6 +78,8 @@ fn work<I: Input>(
 ) -> Result<(Status, Vec<u8>), Status>
     ensures comes { IfOk result (λ x. IfSome (I.told input.old)
         (λ files. ComesTo files (request_of_command command) (x.0, x.1.items))) }
+    ensures short { IfOk result (λ _. IfSome (I.told input.old)
+        (λ files. IsInMemory (bytes_of files (answer_of (request_of_command command))))) }
     ensures judged { IfOk result (λ x. IsVerdictEnd x.0) }
     ensures quits { IfErr result (λ end. IfSome (I.told input.old)
         (λ files. Quits (ComesTo files (request_of_command command)) end)) }

@@ -10,11 +10,10 @@ use Rattle.xn_proof.specs.declared.item.Item.TheVariants as item
 use Rattle.xn_tree.specs.Walk.{after}
 use Rattle.xn_check.specs.FrontSaid.{front_said}
 use Rattle.xn_check.specs.Judging.{Rules}
-use Rattle.xn_check.specs.Meaning.{Agrees, FrontAgrees, KeepsFirst}
+use Rattle.xn_check.specs.Meaning.{Agrees, DrawAgrees, KeepsFirst}
 use Rattle.xn_check.specs.RowsSaid.{rows_said}
 use Rattle.xn_check.specs.Said.{Said, said}
 use Rattle.xn_check.specs.Verdict.{check_rules, draw_rules}
-use Rattle.xn_check.proofs.Checked.{front_agrees}
 use Rattle.xn_check.proofs.ItemKinds.{Each, IsFront, IsOfRows}
 use Rattle.xn_check.proofs.Items.{AllAgree, agree_head, agree_tail, all_said}
 use Rattle.xn_check.proofs.RowItems.{RowAgrees, row_rules}
@@ -29,12 +28,32 @@ module _ (g : Graph) (loops : ℕ) where
   front_of_said [] s = refl
   front_of_said (x ∷ xs) s = front_of_said xs (said s x)
 
+  draw_agrees : (s : Said) (x : Item) → Agrees g loops s x → DrawAgrees g loops s.front x
+  draw_agrees s (item.Header n) a = tt
+  draw_agrees s (item.Graph n m) a = a
+  draw_agrees s (item.Loops l) a = a
+  draw_agrees s (item.Edge u v) a = a
+  draw_agrees s (item.Bounds l u) a = tt
+  draw_agrees s (item.Effort n m) a = tt
+  draw_agrees s (item.Along l) a = tt
+  draw_agrees s (item.Turn n m) a = tt
+  draw_agrees s item.Drawn a = a
+  draw_agrees s (item.Rows n) a = tt
+  draw_agrees s (item.Row n) a = tt
+  draw_agrees s (item.Over e l) a = tt
+  draw_agrees s (item.Branch b) a = tt
+  draw_agrees s (item.Path p) a = tt
+  draw_agrees s (item.Extension l) a = tt
+  draw_agrees s item.Tree a = tt
+  draw_agrees s (item.Step n) a = tt
+  draw_agrees s item.End a = tt
+
   pub front_of_agree : (xs : List Item) (s : Said) → AllAgree R s xs → AllAgree (draw_rules g loops) s.front xs
   front_of_agree [] s all = tt
-  front_of_agree (x ∷ xs) s all = (front_agrees g loops s x all.0, front_of_agree xs (said s x) all.1)
+  front_of_agree (x ∷ xs) s all = (draw_agrees s x all.0, front_of_agree xs (said s x) all.1)
 
   -- an item up to `drawn` is judged by the rules of the drawing alone
-  front_one : (x : Item) (s : Said) → IsFront x → (FrontAgrees g loops s.front x → Agrees g loops s x) × (said s x ≡ record s { front = front_said s.front x })
+  front_one : (x : Item) (s : Said) → IsFront x → (DrawAgrees g loops s.front x → Agrees g loops s x) × (said s x ≡ record s { front = front_said s.front x })
   front_one (item.Header n) s p = (λ a. a, refl)
   front_one (item.Graph n m) s p = (λ a. a, refl)
   front_one (item.Loops l) s p = (λ a. a, refl)

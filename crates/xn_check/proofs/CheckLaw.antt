@@ -62,7 +62,7 @@ module _ (g : Graph) (loops : ℕ) (a : Answer) (fine : WellFormed a) where
       )
 
   -- what is said up to `drawn`
-  front_last : all_said D no_front front_items ≡ after_drawing g loops a
+  pub front_last : all_said D no_front front_items ≡ after_drawing g loops a
   front_last =
       sym (all_passed g loops proof_items (all_said D no_front front_items) (proof_passes a.rows a.tree)).1
       ∙ sym (said_join D no_front front_items proof_items)

@@ -1,82 +1,111 @@
 -- A text is judged line by line.
-use Rattle.std.proofs.Common.{◌≡◌, ℕ, ◌+◌, ◌-◌, ◌^◌, Bool, List, ◌∷◌, min, Ok, sym, subst, ap, ◌∙◌}
+use Rattle.std.proofs.Common.{◌≡◌, ℕ, Bool, List, [], ◌∷◌, ◌++◌, All, Option, Some, None, IfSome, IfOk, Result, Ok, Err, sym, subst, ap, ◌∙◌}
+use Rattle.std.proofs.lemmas.List.Elements.{All-push}
 use Rattle.xn_model.specs.Graph.{Graph}
+use Rattle.xn_kinds.specs.Row.{RowHolds}
+use Rattle.xn_kinds.specs.declared.rows.Row.{Row}
 use Rattle.xn_text.specs.Pieces.{lines_of}
-use Rattle.xn_proof.specs.Forms.{Reached, next_at}
+use Rattle.xn_proof.specs.Forms.{Line, Reached, next_at}
+use Rattle.xn_proof.specs.declared.flaw.AnswerErr.{AnswerErr}
 use Rattle.xn_proof.specs.declared.item.Item.{Item}
 use Rattle.xn_proof.specs.declared.item.Item.TheVariants as item
 use Rattle.xn_check.specs.Fitting.{RowsFit}
 use Rattle.xn_check.specs.FrontFits.{FrontFits, FrontStands}
-use Rattle.xn_check.specs.Judge.{Kept, said_of}
-use Rattle.xn_check.specs.Judging.{Judged}
-use Rattle.xn_check.specs.Meaning.{Agrees, FrontAgrees}
+use Rattle.xn_check.specs.Gives.{GivesVerdict, RefusesText, bounds_in}
+use Rattle.xn_check.specs.Judge.{HaveOneTask, IsReady, Kept, graph_kept, rules_of, said_of}
+use Rattle.xn_check.specs.Judging.{Judged, Took, at_end}
+use Rattle.xn_check.specs.Meaning.{Agrees}
 use Rattle.xn_check.specs.Parts.{MayCome}
+use Rattle.xn_check.specs.RowsSaid.{RowsSaid, row_by_list, row_by_path, rows_said, with_row}
 use Rattle.xn_check.specs.Said.{Said}
 use Rattle.xn_check.specs.Verdict.{check_rules}
+use Rattle.xn_check.specs.declared.verdicts.Accepted.{Accepted}
 use Rattle.xn_check.proofs.Fitting.{forms_fit_rows}
-use Rattle.xn_check.proofs.Folds.{Leads, goes_on}
+use Rattle.xn_check.proofs.Folds.{Leads, stops, took}
 use Rattle.xn_check.proofs.FrontPlaces.{line_ready}
-use Rattle.xn_check.proofs.Taken.{counts_on}
+
+-- ---- rows that hold
+
+hold_with : (g : Graph) (o : Option Row) (s : RowsSaid) → IfSome o (RowHolds g) → All (RowHolds g) s.whole → All (RowHolds g) (with_row o s).whole
+hold_with g None s holds all = all
+hold_with g (Some row) s holds all = All-push (RowHolds g) s.whole row all holds
+
+hold_on : (g : Graph) (loops : ℕ) (s : Said) (x : Item) → Agrees g loops s x → All (RowHolds g) s.rows.whole → All (RowHolds g) (rows_said s.rows x).whole
+hold_on g loops s (item.Path p) a all = hold_with g (row_by_path s.rows p) (record s.rows { paths = s.rows.paths ++ p ∷ [] }) a all
+hold_on g loops s (item.Extension l) a all = hold_with g (Some (row_by_list s.rows l)) s.rows a all
+hold_on g loops s (item.Header n) a all = all
+hold_on g loops s (item.Graph n m) a all = all
+hold_on g loops s (item.Loops l) a all = all
+hold_on g loops s (item.Edge u v) a all = all
+hold_on g loops s (item.Bounds l u) a all = all
+hold_on g loops s (item.Effort n m) a all = all
+hold_on g loops s (item.Along l) a all = all
+hold_on g loops s (item.Turn n m) a all = all
+hold_on g loops s item.Drawn a all = all
+hold_on g loops s (item.Rows n) a all = all
+hold_on g loops s (item.Row n) a all = all
+hold_on g loops s (item.Over e l) a all = all
+hold_on g loops s (item.Branch b) a all = all
+hold_on g loops s item.Tree a all = all
+hold_on g loops s (item.Step n) a all = all
+hold_on g loops s item.End a all = all
+
+-- ---- one line
+
+module _ (old new : Kept) (line : Line) (x : Item) (later : Reached) (is : next_at old.at line ≡ Ok (x, later)) (ready : IsReady old) where
+  pub front_fits : FrontFits old.front x
+  front_fits = (line_ready old.front old.at line (x, later) is ready.front).0
+
+  pub rows_fit : MayCome old.rows x
+  rows_fit = (forms_fit_rows.next old.at line old.rows x later ready.rows is).0
+
+  -- the judge is ready for the next one
+  pub ready_on : (r : Result (Unit {0}) AnswerErr) → new.at ≡ later → HaveOneTask new old → Judged (rules_of old) (said_of old) old.at.0 x (said_of new) r →
+      IfOk r (λ u. IsReady new)
+  ready_on (Err e) at task judged = tt
+  ready_on (Ok u) at task judged =
+      let front = ap (λ (s : Said). s.front) judged.1 in
+      let rows = ap (λ (s : Said). s.rows) judged.1 in
+      let stands = (line_ready old.front old.at line (x, later) is ready.front).1 in
+      let fits = (forms_fit_rows.next old.at line old.rows x later ready.rows is).1 in
+      let hold = hold_on (graph_kept old) old.loops (said_of old) x judged.0 ready.hold in
+      let moved = subst (λ (s : RowsSaid). All (RowHolds (graph_kept old)) s.whole) (sym rows) hold in
+      record {
+        front = subst (λ (l : Reached). FrontStands l.1 new.front) (sym at) (subst (FrontStands later.1) (sym front) stands);
+        rows = subst (λ (l : Reached). RowsFit l.1 new.rows) (sym at) (subst (RowsFit later.1) (sym rows) fits);
+        hold = subst (λ (g : Graph). All (RowHolds g) new.rows.whole) (sym task.graph) moved;
+      }
+
+-- ---- all lines
 
 -- so far each line means what it must
-pub record Checked (g : Graph) (loops : ℕ) (text : List ℕ) (at : Reached) (kept : Kept) (left : ℕ × List ℕ) (number : ℕ) : Type 0 where
-  pub same_graph : kept.front.graph ≡ g
-  pub same_loops : kept.front.loops ≡ loops
-  pub stands : FrontStands g at.1 kept.front.said
-  pub rows_fit : RowsFit at.1 kept.rows.said
-  pub numbered : number ≡ at.0
-  pub leads : Leads (check_rules g loops) text at (said_of kept) left
+pub record Checked (g : Graph) (loops : ℕ) (text : List ℕ) (kept : Kept) (left : ℕ × List ℕ) : Type 0 where
+  pub same_graph : graph_kept kept ≡ g
+  pub same_loops : kept.loops ≡ loops
+  pub ready : IsReady kept
+  pub leads : Leads (check_rules g loops) text kept.at (said_of kept) left
 
-pub front_agrees : (g : Graph) (loops : ℕ) (s : Said) (x : Item) → Agrees g loops s x → FrontAgrees g loops s.front x
-front_agrees g loops s (item.Header n) a = tt
-front_agrees g loops s (item.Graph n m) a = a
-front_agrees g loops s (item.Loops l) a = a
-front_agrees g loops s (item.Edge u v) a = a
-front_agrees g loops s (item.Bounds l u) a = tt
-front_agrees g loops s (item.Effort n m) a = tt
-front_agrees g loops s (item.Along l) a = tt
-front_agrees g loops s (item.Turn n m) a = tt
-front_agrees g loops s item.Drawn a = a
-front_agrees g loops s (item.Rows n) a = tt
-front_agrees g loops s (item.Row n) a = tt
-front_agrees g loops s (item.Over e l) a = tt
-front_agrees g loops s (item.Branch b) a = tt
-front_agrees g loops s (item.Path p) a = tt
-front_agrees g loops s (item.Extension l) a = tt
-front_agrees g loops s item.Tree a = tt
-front_agrees g loops s (item.Step n) a = tt
-front_agrees g loops s item.End a = tt
+module _ (g : Graph) (loops : ℕ) (text : List ℕ) (kept : Kept) (left : ℕ × List ℕ) (checked : Checked g loops text kept left) where
+  by_rules : (line : Line) (more : Kept) (r : Result (Unit {0}) AnswerErr) → Took (rules_of kept) kept.at (said_of kept) line more.at (said_of more) r →
+      Took (check_rules g loops) kept.at (said_of kept) line more.at (said_of more) r
+  by_rules line more r t =
+      subst (λ (l : ℕ). Took (check_rules g l) kept.at (said_of kept) line more.at (said_of more) r) checked.same_loops
+      (subst (λ (h : Graph). Took (check_rules h kept.loops) kept.at (said_of kept) line more.at (said_of more) r) checked.same_graph t)
 
-module _ (g : Graph) (loops : ℕ) (text : List ℕ) (at : Reached) (kept : Kept) (left after : ℕ × List ℕ) (number : ℕ) (line : ℕ × List ℕ × Bool) where
-  -- the line fits
-  pub line_fits : (next : Item × Reached) → next_at at (line.1, line.2) ≡ Ok next → Checked g loops text at kept left number →
-      FrontFits kept.front.graph kept.front.said next.0
-  line_fits next is checked =
-      subst (λ (h : Graph). FrontFits h kept.front.said next.0) (sym checked.same_graph)
-      (line_ready g loops kept.front.said at (line.1, line.2) next is checked.stands).0
+  module _ (after : ℕ × List ℕ) (line : ℕ × List ℕ × Bool) (more : Kept) (taken : lines_of left ≡ line ∷ lines_of after) where
+    -- one line more
+    pub line_on : Took (rules_of kept) kept.at (said_of kept) (line.1, line.2) more.at (said_of more) (Ok tt) → HaveOneTask more kept → IsReady more →
+        Checked g loops text more after
+    line_on t task ready = record {
+      same_graph = task.graph ∙ checked.same_graph;
+      same_loops = task.loops ∙ checked.same_loops;
+      ready = ready;
+      leads = took (check_rules g loops) text kept.at more.at (said_of kept) (said_of more) left after line taken
+          (by_rules (line.1, line.2) more (Ok tt) t) checked.leads;
+    }
 
-  pub line_may_come : (x : Item) (later : Reached) → next_at at (line.1, line.2) ≡ Ok (x, later) → Checked g loops text at kept left number →
-      MayCome kept.rows.said x
-  line_may_come x later is checked = (forms_fit_rows.next at (line.1, line.2) kept.rows.said x later checked.rows_fit is).0
-
-  -- one line more
-  pub line_on : (x : Item) (later : Reached) (more : Kept) → lines_of left ≡ line ∷ lines_of after → next_at at (line.1, line.2) ≡ Ok (x, later) →
-      more.front.graph ≡ kept.front.graph → more.front.loops ≡ kept.front.loops →
-      Judged (check_rules kept.front.graph kept.front.loops) (said_of kept) number x (said_of more) (Ok tt) →
-      Checked g loops text at kept left number → Checked g loops text later more after (min (number + 1) (2 ^ 64 - 1))
-  line_on x later more taken is graph others judged checked =
-      let rules = check_rules g loops in
-      let good = subst (λ (h : Graph). Judged (check_rules h kept.front.loops) (said_of kept) number x (said_of more) (Ok tt)) checked.same_graph judged in
-      let fine = subst (λ (l : ℕ). Judged (check_rules g l) (said_of kept) number x (said_of more) (Ok tt)) checked.same_loops good in
-      let ready = line_ready g loops kept.front.said at (line.1, line.2) (x, later) is checked.stands in
-      let front = ap (λ (s : Said). s.front) fine.1 in
-      let rows = ap (λ (s : Said). s.rows) fine.1 in
-      let fits = forms_fit_rows.next at (line.1, line.2) kept.rows.said x later checked.rows_fit is in
-      record {
-        same_graph = graph ∙ checked.same_graph;
-        same_loops = others ∙ checked.same_loops;
-        stands = subst (FrontStands g later.1) (sym front) (ready.1 (front_agrees g loops (said_of kept) x fine.0));
-        rows_fit = subst (RowsFit later.1) (sym rows) fits.1;
-        numbered = ap (λ (n : ℕ). min (n + 1) (2 ^ 64 - 1)) checked.numbered ∙ counts_on at (line.1, line.2) (x, later) is;
-        leads = goes_on rules text at (said_of kept) (said_of more) left after line (x, later) taken is fine.0 fine.1 checked.leads;
-      }
+    -- a line that is refused
+    pub line_stops : (e : AnswerErr) → Took (rules_of kept) kept.at (said_of kept) (line.1, line.2) more.at (said_of more) (Err e) →
+        RefusesText (check_rules g loops) text e
+    line_stops e t =
+        stops (check_rules g loops) text e kept.at more.at (said_of kept) (said_of more) left after line taken (by_rules (line.1, line.2) more (Err e) t) checked.leads

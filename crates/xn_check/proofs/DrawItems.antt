@@ -1,6 +1,6 @@
 -- What the items of an answer have to mean by the rules of a drawing.
 use Rattle.std.proofs.Common.{◌≡◌, ℕ, zero, suc, ◌+◌, ◌*◌, List, [], ◌∷◌, ◌++◌, length, map, drop, refl, sym, subst, ap, ◌∙◌, arith, append_assoc}
-use Rattle.std.proofs.lemmas.List.{append-nil}
+use Rattle.std.proofs.lemmas.List.{append-nil, length_push}
 use Rattle.std.proofs.Math.ListN.{drop_of_length-le}
 use Rattle.std.proofs.Math.Seq.{drop-cons}
 use Rattle.xn_model.specs.Graph.{Graph, ends_at}
@@ -11,13 +11,13 @@ use Rattle.xn_proof.specs.Spelling.{turns_of}
 use Rattle.xn_proof.specs.declared.item.Item.{Item}
 use Rattle.xn_proof.specs.declared.item.Item.TheVariants as item
 use Rattle.xn_check.specs.FrontSaid.{FrontSaid, front_said}
-use Rattle.xn_check.specs.Meaning.{FrontAgrees}
+use Rattle.xn_check.specs.Meaning.{DrawAgrees}
 use Rattle.xn_check.specs.Verdict.{draw_rules}
 use Rattle.xn_check.proofs.ItemKinds.{Each, Passes}
 use Rattle.xn_check.proofs.Items.{AllAgree, agree_join, all_said, said_join}
 
 module _ (g : Graph) (loops : ℕ) where
-  passed : (x : Item) (f : FrontSaid) → Passes x → FrontAgrees g loops f x × (front_said f x ≡ f)
+  passed : (x : Item) (f : FrontSaid) → Passes x → DrawAgrees g loops f x × (front_said f x ≡ f)
   passed (item.Header n) f p = (tt, refl)
   passed (item.Graph nodes edges) f p = absurd p
   passed (item.Loops l) f p = absurd p
@@ -44,7 +44,7 @@ module _ (g : Graph) (loops : ℕ) where
   all_passed (x ∷ xs) f p =
       let one = passed x f p.0 in
       let rest = all_passed xs f p.1 in
-      subst (λ (h : FrontSaid). (FrontAgrees g loops f x × AllAgree (draw_rules g loops) h xs) × (all_said (draw_rules g loops) h xs ≡ f)) (sym one.1)
+      subst (λ (h : FrontSaid). (DrawAgrees g loops f x × AllAgree (draw_rules g loops) h xs) × (all_said (draw_rules g loops) h xs ≡ f)) (sym one.1)
       ((one.0, rest.0), rest.1)
 
   -- ---- edges
@@ -52,32 +52,31 @@ module _ (g : Graph) (loops : ℕ) where
   abbrev pub edge_items : List (ℕ × ℕ) → List Item
   edge_items es = map (λ e. item.Edge e.0 e.1) es
 
-  pub edges_said : (es : List (ℕ × ℕ)) (f : FrontSaid) →
-      all_said (draw_rules g loops) f (edge_items es) ≡ record f { edges = f.edges + length es }
-  edges_said [] f = ap (λ (n : ℕ). record f { edges = n }) (omega arith)
+  pub edges_said : (es : List (ℕ × ℕ)) (f : FrontSaid) → all_said (draw_rules g loops) f (edge_items es) ≡ record f { ends = f.ends ++ es }
+  edges_said [] f = ap (λ (es : List (ℕ × ℕ)). record f { ends = es }) (sym (append-nil f.ends))
   edges_said (e ∷ es) f =
-      edges_said es (record f { edges = f.edges + 1 }) ∙ ap (λ (n : ℕ). record f { edges = n }) (omega arith)
+      edges_said es (record f { ends = f.ends ++ e ∷ [] }) ∙ ap (λ (es : List (ℕ × ℕ)). record f { ends = es }) (append_assoc f.ends (e ∷ []) es)
 
   -- the edges that are said are those from the next one on
-  pub edges_are : (es : List (ℕ × ℕ)) (f : FrontSaid) → f.edges + length es ≡ length g.ends →
-      AllAgree (draw_rules g loops) f (edge_items es) → es ≡ drop f.edges g.ends
+  pub edges_are : (es : List (ℕ × ℕ)) (f : FrontSaid) → length f.ends + length es ≡ length g.ends →
+      AllAgree (draw_rules g loops) f (edge_items es) → es ≡ drop (length f.ends) g.ends
   edges_are [] f fits agree = sym (drop_of_length-le g.ends (omega (arith, fits)))
   edges_are (e ∷ es) f fits agree =
-      let rest = edges_are es (record f { edges = f.edges + 1 }) (omega (arith, fits)) agree.1 in
-      let next : f.edges + 1 ≡ suc f.edges = omega arith in
+      let longer : length (f.ends ++ e ∷ []) ≡ suc (length f.ends) = omega (arith, length_push f.ends e) in
+      let rest = edges_are es (record f { ends = f.ends ++ e ∷ [] }) (omega (arith, fits, longer)) agree.1 in
       ap (λ (x : ℕ × ℕ). x ∷ es) agree.0
-      ∙ ap (λ (xs : List (ℕ × ℕ)). ends_at g.ends f.edges ∷ xs) (rest ∙ ap (λ (n : ℕ). drop n g.ends) next)
-      ∙ sym (drop-cons g.ends f.edges (0, 0) (omega (arith, fits)))
+      ∙ ap (λ (xs : List (ℕ × ℕ)). ends_at g.ends (length f.ends) ∷ xs) (rest ∙ ap (λ (n : ℕ). drop n g.ends) longer)
+      ∙ sym (drop-cons g.ends (length f.ends) (0, 0) (omega (arith, fits)))
 
-  pub edges_agree : (es : List (ℕ × ℕ)) (f : FrontSaid) → f.edges + length es ≡ length g.ends → es ≡ drop f.edges g.ends →
+  pub edges_agree : (es : List (ℕ × ℕ)) (f : FrontSaid) → length f.ends + length es ≡ length g.ends → es ≡ drop (length f.ends) g.ends →
       AllAgree (draw_rules g loops) f (edge_items es)
   edges_agree [] f fits same = tt
   edges_agree (e ∷ es) f fits same =
-      let split = same ∙ drop-cons g.ends f.edges (0, 0) (omega (arith, fits)) in
-      let first : e ≡ ends_at g.ends f.edges = cc in
-      let others : es ≡ drop (suc f.edges) g.ends = cc in
-      let next : suc f.edges ≡ f.edges + 1 = omega arith in
-      (first, edges_agree es (record f { edges = f.edges + 1 }) (omega (arith, fits)) (others ∙ ap (λ (n : ℕ). drop n g.ends) next))
+      let split = same ∙ drop-cons g.ends (length f.ends) (0, 0) (omega (arith, fits)) in
+      let first : e ≡ ends_at g.ends (length f.ends) = cc in
+      let others : es ≡ drop (suc (length f.ends)) g.ends = cc in
+      let longer : length (f.ends ++ e ∷ []) ≡ suc (length f.ends) = omega (arith, length_push f.ends e) in
+      (first, edges_agree es (record f { ends = f.ends ++ e ∷ [] }) (omega (arith, fits, longer)) (others ∙ ap (λ (n : ℕ). drop n g.ends) (sym longer)))
 
   -- ---- order lists and turns
 

@@ -1,5 +1,5 @@
 -- The draw verdict in the words of the answer.
-use Rattle.std.proofs.Common.{◌≡◌, ℕ, ◌+◌, ◌^◌, ◌<◌, List, ◌∷◌, ◌++◌, length, drop, Ok, sym, subst, ap, ◌∙◌, arith}
+use Rattle.std.proofs.Common.{◌≡◌, ℕ, ◌+◌, ◌^◌, ◌<◌, List, [], ◌∷◌, ◌++◌, length, drop, Ok, sym, subst, ap, ◌∙◌, arith}
 use Rattle.xn_model.specs.Drawing.{IsListedDrawing, order_of}
 use Rattle.xn_model.specs.Graph.{Graph}
 use Rattle.xn_model.specs.Lists.{total}
@@ -34,8 +34,11 @@ module _ (g : Graph) (loops : ℕ) (a : Answer) where
   abbrev proof_items : List Item
   proof_items = rows_items a.rows ++ tree_items a.tree
 
+  abbrev sized : FrontSaid
+  sized = record no_front { nodes = a.graph.nodes }
+
   abbrev after_edges : FrontSaid
-  after_edges = record no_front { edges = 0 + length a.graph.ends }
+  after_edges = record sized { ends = [] ++ a.graph.ends }
 
   abbrev after_bounds : FrontSaid
   after_bounds = record after_edges { lower = a.lower; upper = a.upper }
@@ -58,8 +61,8 @@ module _ (g : Graph) (loops : ℕ) (a : Answer) where
   -- what is said after all lines
   pub said_last : WellFormed a → all_said R no_front (items_of a) ≡ after_drawing
   said_last fine =
-      said_join R no_front (edge_items g loops a.graph.ends) with_bounds
-      ∙ ap (λ (f : FrontSaid). all_said R f with_bounds) (edges_said g loops a.graph.ends no_front)
+      said_join R sized (edge_items g loops a.graph.ends) with_bounds
+      ∙ ap (λ (f : FrontSaid). all_said R f with_bounds) (edges_said g loops a.graph.ends sized)
       ∙ said_join R after_bounds (drawing_items a.drawing) (item.Drawn ∷ proof_items)
       ∙ ap (λ (f : FrontSaid). all_said R f (item.Drawn ∷ proof_items)) (drawn_said fine)
       ∙ (all_passed g loops proof_items after_drawing (proof_passes a.rows a.tree)).1
@@ -70,17 +73,17 @@ module _ (g : Graph) (loops : ℕ) (a : Answer) where
       let edges_on = es ++ with_bounds in
       let loops_on = item.Loops a.loops ∷ edges_on in
       let size_on = item.Graph a.graph.nodes (length a.graph.ends) ∷ loops_on in
-      let sized = agree_tail R no_front (item.Header 1) size_on all in
-      let size : (a.graph.nodes ≡ g.nodes) × (length a.graph.ends ≡ length g.ends) = agree_head R no_front (item.Graph a.graph.nodes (length a.graph.ends)) loops_on sized in
-      let looped = agree_tail R no_front (item.Graph a.graph.nodes (length a.graph.ends)) loops_on sized in
-      let rest = agree_tail R no_front (item.Loops a.loops) edges_on looped in
-      let edges = edges_are g loops a.graph.ends no_front (omega (arith, size.1)) (agree_first R no_front es with_bounds rest) in
-      let bounded = subst (λ (f : FrontSaid). AllAgree R f with_bounds) (edges_said g loops a.graph.ends no_front) (agree_rest R no_front es with_bounds rest) in
+      let after = agree_tail R no_front (item.Header 1) size_on all in
+      let size : (a.graph.nodes ≡ g.nodes) × (length a.graph.ends ≡ length g.ends) = agree_head R no_front (item.Graph a.graph.nodes (length a.graph.ends)) loops_on after in
+      let looped = agree_tail R no_front (item.Graph a.graph.nodes (length a.graph.ends)) loops_on after in
+      let rest = agree_tail R sized (item.Loops a.loops) edges_on looped in
+      let edges = edges_are g loops a.graph.ends sized (omega (arith, size.1)) (agree_first R sized es with_bounds rest) in
+      let bounded = subst (λ (f : FrontSaid). AllAgree R f with_bounds) (edges_said g loops a.graph.ends sized) (agree_rest R sized es with_bounds rest) in
       let effort_on = item.Effort a.spent a.budget ∷ with_drawing in
       let drawing = agree_tail R after_bounds (item.Effort a.spent a.budget) with_drawing (agree_tail R after_edges (item.Bounds a.lower a.upper) effort_on bounded) in
       let drawn = agree_rest R after_bounds (drawing_items a.drawing) (item.Drawn ∷ proof_items) drawing in
       let judged = agree_head R after_drawing item.Drawn proof_items (subst (λ (f : FrontSaid). AllAgree R f (item.Drawn ∷ proof_items)) (drawn_said fine) drawn) in
-      record { same_graph = same a.graph size.0 edges; same_loops = agree_head R no_front (item.Loops a.loops) edges_on looped; drawing = judged.0; crossings = judged.1 }
+      record { same_graph = same a.graph size.0 edges; same_loops = agree_head R sized (item.Loops a.loops) edges_on looped; drawing = judged.0; crossings = judged.1 }
     where
       same : (h : Graph) → h.nodes ≡ g.nodes → h.ends ≡ drop 0 g.ends → h ≡ g
       same h nodes ends = ap (λ (n : ℕ). record { nodes = n; ends = h.ends }) nodes ∙ ap (λ (es : List (ℕ × ℕ)). record { nodes = g.nodes; ends = es }) ends
@@ -95,10 +98,10 @@ module _ (g : Graph) (loops : ℕ) (a : Answer) where
       let lists = (drawing_said g loops a.drawing (length a.graph.ends + total length a.drawing.orders) after_bounds fine.drawing.next_fits).0 in
       let drawing : AllAgree R after_bounds with_drawing = agree_join R after_bounds (drawing_items a.drawing) (item.Drawn ∷ proof_items) lists drawn in
       let bounded : AllAgree R after_edges with_bounds = (tt, (tt, drawing)) in
-      let rest = subst (λ (f : FrontSaid). AllAgree R f with_bounds) (sym (edges_said g loops a.graph.ends no_front)) bounded in
-      let edges = edges_agree g loops a.graph.ends no_front (omega (arith, count)) (ap (λ (h : Graph). h.ends) is.same_graph) in
+      let rest = subst (λ (f : FrontSaid). AllAgree R f with_bounds) (sym (edges_said g loops a.graph.ends sized)) bounded in
+      let edges = edges_agree g loops a.graph.ends sized (omega (arith, count)) (ap (λ (h : Graph). h.ends) is.same_graph) in
       let sizes : (a.graph.nodes ≡ g.nodes) × (length a.graph.ends ≡ length g.ends) = (ap (λ (h : Graph). h.nodes) is.same_graph, count) in
-      (tt, (sizes, (is.same_loops, agree_join R no_front es with_bounds edges rest)))
+      (tt, (sizes, (is.same_loops, agree_join R sized es with_bounds edges rest)))
 
 drawn_is_spelled : (g : Graph) (loops : ℕ) (text : List ℕ) (d : Drawing) → length text < 2 ^ 63 → DrawVerdict g loops text (Ok d) → SpellsDrawing g loops text d
 drawn_is_spelled g loops text d short verdict =

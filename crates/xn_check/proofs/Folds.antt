@@ -1,14 +1,14 @@
 -- A text is judged line by line: what comes of the lines that are left comes of the text.
-use Rattle.std.proofs.Common.{◌≡◌, ℕ, inl, inr, Bool, List, [], ◌∷◌, map, Result, Ok, Err, refl, sym, subst, ap}
+use Rattle.std.proofs.Common.{◌≡◌, ℕ, inl, inr, Bool, true, false, cond, List, [], ◌∷◌, map, Result, Ok, Err, refl, sym, subst, ap}
 use Rattle.xn_kinds.specs.declared.flaws.Flaw.{Flaw}
 use Rattle.xn_text.specs.Pieces.{lines_of}
 use Rattle.xn_proof.specs.Forms.{Line, Reached, is_end, next_at, start_state}
-use Rattle.xn_proof.specs.Reading.{Fails}
+use Rattle.xn_proof.specs.Reading.{syntax}
 use Rattle.xn_proof.specs.declared.flaw.AnswerErr.{AnswerErr}
 use Rattle.xn_proof.specs.declared.flaw.AnswerErr.TheVariants as errors
 use Rattle.xn_proof.specs.declared.item.Item.{Item}
 use Rattle.xn_check.specs.Gives.{RefusesText}
-use Rattle.xn_check.specs.Judging.{AtEnd, Judged, Judges, OnLine, JudgesTo, Rules}
+use Rattle.xn_check.specs.Judging.{AtEnd, Judges, JudgesTo, KeepsRules, OnLine, Rules, StopsAt, Took, at_end}
 
 -- the lines that are left
 abbrev pub lines_left : ℕ × List ℕ → List Line
@@ -18,9 +18,6 @@ module _ {S A : Type 0} (rules : Rules S A) (text : List ℕ) where
   -- where lines led to a state and said this, what comes of those that are left comes of the text
   abbrev pub Leads : Reached → S → ℕ × List ℕ → Type 0
   Leads at s left = (o : Result A Flaw) → Judges rules at s (lines_left left) o → JudgesTo rules text o
-
-  pub starts : Leads start_state rules.start (1, text)
-  starts o comes = comes
 
   -- the next line is judged
   by_line : (at : Reached) (s : S) (left after : ℕ × List ℕ) (line : ℕ × List ℕ × Bool) (r : Result (Item × Reached) Flaw) (o : Result A Flaw) →
@@ -38,24 +35,24 @@ module _ {S A : Type 0} (rules : Rules S A) (text : List ℕ) where
       λ o comes. by_line at s left after line (Ok next) o taken is leads
       (inl (agrees, subst (λ (u : S). Judges rules next.1 u (lines_left after) o) same comes))
 
-  -- a line that breaks its form
-  pub stops_form : (e : AnswerErr) (at : Reached) (s : S) (left after : ℕ × List ℕ) (line : ℕ × List ℕ × Bool) →
-      lines_of left ≡ line ∷ lines_of after → Fails e (next_at at (line.1, line.2)) → Leads at s left → RefusesText rules text e
-  stops_form errors.Memory at s left after line taken is leads = tt
-  stops_form (errors.Refused flaw) at s left after line taken is leads = by_line at s left after line (Err flaw) (Err flaw) taken is leads refl
+  -- a line was judged and kept
+  pub took : (at later : Reached) (s t : S) (left after : ℕ × List ℕ) (line : ℕ × List ℕ × Bool) → lines_of left ≡ line ∷ lines_of after →
+      Took rules at s (line.1, line.2) later t (Ok tt) → Leads at s left → Leads later t after
+  took at later s t left after line taken kept leads = by (next_at at (line.1, line.2)) refl kept
+    where
+      by : (r : Result (Item × Reached) Flaw) → next_at at (line.1, line.2) ≡ r → KeepsRules rules s r later t → Leads later t after
+      by (Err flaw) is h = absurd h
+      by (Ok next) is h =
+          subst (λ (l : Reached). Leads l t after) (sym h.1) (goes_on at s t left after line next taken is h.0 h.2 leads)
 
-  -- a line that means something else
-  pub stops_rule : (e : AnswerErr) (at : Reached) (s t : S) (left after : ℕ × List ℕ) (line : ℕ × List ℕ × Bool) (next : Item × Reached) →
-      lines_of left ≡ line ∷ lines_of after → next_at at (line.1, line.2) ≡ Ok next → Judged rules s at.0 next.0 t (Err e) →
-      Leads at s left → RefusesText rules text e
-  stops_rule errors.Memory at s t left after line next taken is judged leads = tt
-  stops_rule (errors.Refused flaw) at s t left after line next taken is judged leads =
-      by_line at s left after line (Ok next) (Err flaw) taken is leads
-      (inr (flaw.kind, judged.0, ap (λ (n : ℕ). Err (record { line = n; kind = flaw.kind })) judged.1))
-
-  -- no line is left
-  pub ends : (at : Reached) (s : S) (left : ℕ × List ℕ) (b : Bool) (o : Result A Flaw) → lines_of left ≡ [] → b ≡ is_end at.1 →
-      AtEnd rules b at.0 s o → Leads at s left → JudgesTo rules text o
-  ends at s left b o none is at_end leads =
-      let last = subst (λ (c : Bool). AtEnd rules c at.0 s o) is at_end in
-      leads o (subst (λ (ls : List (ℕ × List ℕ × Bool)). Judges rules at s (map (λ l. (l.1, l.2)) ls) o) (sym none) last)
+  -- a line was refused
+  pub stops : (e : AnswerErr) (at later : Reached) (s t : S) (left after : ℕ × List ℕ) (line : ℕ × List ℕ × Bool) → lines_of left ≡ line ∷ lines_of after →
+      Took rules at s (line.1, line.2) later t (Err e) → Leads at s left → RefusesText rules text e
+  stops errors.Memory at later s t left after line taken refused leads = tt
+  stops (errors.Refused flaw) at later s t left after line taken refused leads = by (next_at at (line.1, line.2)) refl refused
+    where
+      by : (r : Result (Item × Reached) Flaw) → next_at at (line.1, line.2) ≡ r → StopsAt rules s at.0 r (errors.Refused flaw) → JudgesTo rules text (Err flaw)
+      by (Err broken) is h = by_line at s left after line (Err broken) (Err flaw) taken is leads (ap (λ (f : Flaw). Err f) (sym h))
+      by (Ok next) is h =
+          by_line at s left after line (Ok next) (Err flaw) taken is leads
+          (inr (flaw.kind, h.0, ap (λ (n : ℕ). Err (record { line = n; kind = flaw.kind })) h.1))

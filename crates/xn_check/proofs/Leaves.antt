@@ -14,8 +14,9 @@ use Rattle.xn_kinds.specs.declared.rows.Row.{Row}
 use Rattle.xn_kinds.specs.declared.trees.Node.TheVariants.{Leaf}
 use Rattle.xn_proof.specs.declared.flaw.AnswerErr.TheVariants as errors
 use Rattle.xn_tree.specs.Leaf.{IsRowOf}
+use Rattle.xn_check.specs.Judging.{RefusesLine}
 use Rattle.xn_check.specs.Meaning.{KeepsFirst, StepFails, need_of}
-use Rattle.xn_check.specs.Parts.{IsInRange, RefusesLine}
+use Rattle.xn_check.specs.Parts.{IsInRange}
 
 -- what a test tells
 pub not_where : (b : Bool) (P : Type 0) → IsTrue b ↔ P → b ≡ false → ¬ P
@@ -81,9 +82,9 @@ module _ (g : Graph) (k number n : ℕ) (rows : List Row) (d : ℕ) (parts : Lis
       ((t : State) (rest : List State) → pending ≡ t ∷ rest → IsBound g rows t d parts b) → (¬ (need_of k d <ℤ b)) →
       RefusesLine number (StepFails g k rows pending n (Leaf d parts)) (errors.Refused (record { line = number; kind = kinds.Weak b (need_of k d) }))
   leaf_weak [] b some rise is weak = absurd (some refl)
-  leaf_weak (t ∷ pending) b some rise is weak = (kinds.Weak b (need_of k d), inr (rise, (b, is t pending refl, weak, refl)), refl)
+  leaf_weak (t ∷ pending) b some rise is weak = (inr (rise, (b, is t pending refl, weak, refl)), refl)
 
   pub leaf_misshapen : (pending : List State) → (¬ (Rise parts)) →
       RefusesLine number (StepFails g k rows pending n (Leaf d parts)) (errors.Refused (record { line = number; kind = kinds.TreeShape n }))
-  leaf_misshapen [] falls = (kinds.TreeShape n, refl, refl)
-  leaf_misshapen (t ∷ pending) falls = (kinds.TreeShape n, inl (falls, refl), refl)
+  leaf_misshapen [] falls = (refl, refl)
+  leaf_misshapen (t ∷ pending) falls = (inl (falls, refl), refl)

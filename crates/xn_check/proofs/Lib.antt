@@ -7,6 +7,7 @@ pub mod Drawn
 pub mod Ends
 pub mod Fitting
 pub mod Folds
+pub mod FrontLaw
 pub mod FrontPlaces
 pub mod ItemKinds
 pub mod Items
@@ -15,6 +16,7 @@ pub mod Lines
 pub mod OneOutcome
 pub mod Parts
 pub mod RowItems
+pub mod SeenLines
 pub mod Spelled
 pub mod Stages
 pub mod Taken

@@ -20,13 +20,13 @@ use Rattle.xn_proof.specs.Forms.{Reached as LineState}
 use Rattle.xn_proof.specs.declared.item.Item.{Item}
 use Rattle.xn_proof.specs.declared.item.Item.TheVariants as item
 use Rattle.xn_rows.proofs.Excluded.{no_row_flaw, one_row_flaw}
-use Rattle.xn_check.specs.FrontSaid.{FrontSaid}
+use Rattle.xn_check.specs.FrontSaid.{FrontSaid, FrontSeen, graph_said}
 use Rattle.xn_check.specs.Judging.{AtEnd, Judges, OnLine, Rules}
-use Rattle.xn_check.specs.Laws.{OneDrawVerdict, OneVerdict}
-use Rattle.xn_check.specs.Meaning.{Agrees, DrawnFails, Breaks, FrontAgrees, FrontFails, KeepsFirst, NodeFails, PathFails, RowFails, StepFails, need_of}
+use Rattle.xn_check.specs.Laws.{OneDrawVerdict, OneFrontVerdict, OneVerdict}
+use Rattle.xn_check.specs.Meaning.{Agrees, DrawnFails, Breaks, DrawAgrees, DrawBreaks, FrontAgrees, FrontBreaks, KeepsFirst, NodeFails, PathFails, RowFails, StepFails, need_of}
 use Rattle.xn_check.specs.RowsSaid.{row_by_list, row_by_path}
 use Rattle.xn_check.specs.Said.{Said}
-use Rattle.xn_check.specs.Verdict.{check_rules, draw_rules}
+use Rattle.xn_check.specs.Verdict.{check_rules, draw_rules, front_rules}
 
 -- ---- any rules
 
@@ -66,13 +66,13 @@ module _ {S A : Type 0} (rules : Rules S A) (clear : AreClear rules) where
 -- ---- lines up to `drawn`
 
 module _ (g : Graph) (loops : ℕ) where
-  drawn_apart : (f : FrontSaid) (kind : FlawKind) → FrontAgrees g loops f item.Drawn → DrawnFails g f kind → ⊥
+  drawn_apart : (f : FrontSaid) (kind : FlawKind) → DrawAgrees g loops f item.Drawn → DrawnFails g f kind → ⊥
   drawn_apart f kind agrees fails = elim fails [
     | inl flaw ↦ no_flaw g f.lists f.next agrees.0 flaw.0 flaw.1
     | inr count ↦ count.1 agrees.1
   ]
 
-  front_apart : (f : FrontSaid) (x : Item) (kind : FlawKind) → FrontAgrees g loops f x → FrontFails g loops f x kind → ⊥
+  front_apart : (f : FrontSaid) (x : Item) (kind : FlawKind) → DrawAgrees g loops f x → DrawBreaks g loops f x kind → ⊥
   front_apart f (item.Header n) kind agrees fails = fails
   front_apart f (item.Graph n m) kind agrees fails = fails.0 agrees
   front_apart f (item.Loops l) kind agrees fails = fails.0 agrees
@@ -104,7 +104,7 @@ module _ (g : Graph) (loops : ℕ) where
     ]
   ]
 
-  front_one : (f : FrontSaid) (x : Item) (k l : FlawKind) → FrontFails g loops f x k → FrontFails g loops f x l → k ≡ l
+  front_one : (f : FrontSaid) (x : Item) (k l : FlawKind) → DrawBreaks g loops f x k → DrawBreaks g loops f x l → k ≡ l
   front_one f (item.Header n) k l first second = absurd first
   front_one f (item.Graph n m) k l first second = first.1 ∙ sym second.1
   front_one f (item.Loops n) k l first second = first.1 ∙ sym second.1
@@ -234,3 +234,49 @@ one_verdict g loops text o p first second =
 pub one_draw_verdict : OneDrawVerdict
 one_draw_verdict g loops text o p first second =
     one_outcome (draw_rules g loops) (record { apart = front_apart g loops; one = front_one g loops }) (text_lines text) start_state _ o p first second
+
+-- ---- whatever the graph
+
+seen_apart : (s : FrontSeen) (x : Item) (kind : FlawKind) → FrontAgrees s.front x → FrontBreaks s.front x kind → ⊥
+seen_apart s item.Drawn kind agrees fails = drawn_apart (graph_said s.front) 0 s.front kind agrees fails
+seen_apart s (item.Header n) kind agrees fails = fails
+seen_apart s (item.Graph n m) kind agrees fails = fails
+seen_apart s (item.Loops l) kind agrees fails = fails
+seen_apart s (item.Edge u v) kind agrees fails = fails
+seen_apart s (item.Bounds l u) kind agrees fails = fails
+seen_apart s (item.Effort n m) kind agrees fails = fails
+seen_apart s (item.Along l) kind agrees fails = fails
+seen_apart s (item.Turn n m) kind agrees fails = fails
+seen_apart s (item.Rows n) kind agrees fails = fails
+seen_apart s (item.Row n) kind agrees fails = fails
+seen_apart s (item.Over e l) kind agrees fails = fails
+seen_apart s (item.Branch b) kind agrees fails = fails
+seen_apart s (item.Path p) kind agrees fails = fails
+seen_apart s (item.Extension l) kind agrees fails = fails
+seen_apart s item.Tree kind agrees fails = fails
+seen_apart s (item.Step n) kind agrees fails = fails
+seen_apart s item.End kind agrees fails = fails
+
+seen_one : (s : FrontSeen) (x : Item) (k l : FlawKind) → FrontBreaks s.front x k → FrontBreaks s.front x l → k ≡ l
+seen_one s item.Drawn k l first second = drawn_one (graph_said s.front) 0 s.front k l first second
+seen_one s (item.Header n) k l first second = absurd first
+seen_one s (item.Graph n m) k l first second = absurd first
+seen_one s (item.Loops n) k l first second = absurd first
+seen_one s (item.Edge u v) k l first second = absurd first
+seen_one s (item.Bounds n m) k l first second = absurd first
+seen_one s (item.Effort n m) k l first second = absurd first
+seen_one s (item.Along n) k l first second = absurd first
+seen_one s (item.Turn n m) k l first second = absurd first
+seen_one s (item.Rows n) k l first second = absurd first
+seen_one s (item.Row n) k l first second = absurd first
+seen_one s (item.Over e n) k l first second = absurd first
+seen_one s (item.Branch b) k l first second = absurd first
+seen_one s (item.Path p) k l first second = absurd first
+seen_one s (item.Extension n) k l first second = absurd first
+seen_one s item.Tree k l first second = absurd first
+seen_one s (item.Step n) k l first second = absurd first
+seen_one s item.End k l first second = absurd first
+
+pub one_front_verdict : OneFrontVerdict
+one_front_verdict text o p first second =
+    one_outcome front_rules (record { apart = seen_apart; one = seen_one }) (text_lines text) start_state _ o p first second

@@ -145,7 +145,7 @@ module _ (g : Graph) (loops : ℕ) (s : Said) where
   step place.Graph i words y e known = let r = given _ _ y e in subst Next r.1 (λ agrees. known)
   step (place.Loops nodes m) i words y e known = let r = given _ _ y e in subst Next r.1 (λ agrees. edges_stage g s nodes 0 m known)
   step (place.Edge nodes e more) i words y eq known =
-      let r = given _ _ y eq in subst Next r.1 (λ agrees. edges_stage g (said s (item.Edge 0 0)) nodes (e + 1) more known)
+      let r = given _ _ y eq in subst Next r.1 (λ agrees. edges_stage g (said s (item.Edge r.0.0 r.0.1)) nodes (e + 1) more known)
   step (place.Bounds m) i words y e known = let r = given _ _ y e in subst Next r.1 (λ agrees. known)
   step (place.Effort m) i words y e known = let r = given _ _ y e in subst Next r.1 (λ agrees. alongs_stage g s m m m known)
   step (place.Along m segments more) i words y e known =

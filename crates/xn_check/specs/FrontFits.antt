@@ -1,21 +1,28 @@
 -- What the forms of lines give beforehand, by the place of the next line.
-use Rattle.std.specs.Prelude.{◌≡◌, ◌+◌, ◌<◌, length}
-use Rattle.xn_model.specs.Graph.{Graph}
+use Rattle.std.specs.Prelude.{◌≡◌, ℕ, ◌+◌, ◌<◌, ◌≤◌, [], All, length}
+use Rattle.xn_graph.specs.Limits.{IsEdge}
 use Rattle.xn_proof.specs.declared.item.Item.{Item}
 use Rattle.xn_proof.specs.declared.item.Item.TheVariants as item
 use Rattle.xn_proof.specs.declared.places.Place.{Place}
 use Rattle.xn_proof.specs.declared.places.Place.TheVariants as place
 use Rattle.xn_check.specs.FrontSaid.{FrontSaid}
 
--- an edge isn't one too many
-abbrev pub FrontFits : Graph → FrontSaid → Item → Type 0
-FrontFits g f (item.Edge u v) = f.edges < length g.ends
-FrontFits g f line = Unit {0}
+-- the nodes and edges that are said are those of a graph
+pub record IsOfGraph (f : FrontSaid) : Type 0 where
+  pub few_nodes : f.nodes ≤ 1000
+  pub few_edges : length f.ends ≤ 1000
+  pub edges : All (IsEdge f.nodes) f.ends
 
--- so many edges are said, and there are as many as the graph has
-abbrev pub FrontStands : Graph → Place → FrontSaid → Type 0
-FrontStands g place.Header f = f.edges ≡ 0
-FrontStands g place.Graph f = f.edges ≡ 0
-FrontStands g (place.Loops nodes m) f = (f.edges ≡ 0) × (m ≡ length g.ends)
-FrontStands g (place.Edge nodes e more) f = (f.edges ≡ e) × (e + more + 1 ≡ length g.ends)
-FrontStands g p f = Unit {0}
+-- they are with one line more, too
+abbrev pub FrontFits : FrontSaid → Item → Type 0
+FrontFits f (item.Graph nodes edges) = (nodes ≤ 1000) × (f.ends ≡ [])
+FrontFits f (item.Edge u v) = (length f.ends < 1000) × IsEdge f.nodes (u, v)
+FrontFits f line = Unit {0}
+
+-- so many nodes and edges are said where the next line has a place
+abbrev pub FrontStands : Place → FrontSaid → Type 0
+FrontStands place.Header f = f.ends ≡ []
+FrontStands place.Graph f = f.ends ≡ []
+FrontStands (place.Loops nodes m) f = (f.nodes ≡ nodes) × (nodes ≤ 1000) × (m ≤ 1000) × (f.ends ≡ [])
+FrontStands (place.Edge nodes e more) f = (f.nodes ≡ nodes) × (nodes ≤ 1000) × (e + more < 1000) × (length f.ends ≡ e)
+FrontStands p f = Unit {0}

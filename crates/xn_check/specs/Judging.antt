@@ -1,5 +1,5 @@
 -- Texts judged line by line, by whatever rules.
-use Rattle.std.specs.Prelude.{◌≡◌, ◌⊎◌, ℕ, Bool, true, false, List, [], ◌∷◌, Result, Ok, Err}
+use Rattle.std.specs.Prelude.{◌≡◌, ◌⊎◌, ℕ, Bool, true, false, List, [], ◌∷◌, Result, Ok, Err, if◌then◌else◌}
 use Rattle.xn_kinds.specs.declared.flaws.Flaw.{Flaw}
 use Rattle.xn_kinds.specs.declared.flaws.FlawKind.{FlawKind}
 use Rattle.xn_proof.specs.Forms.{Line, Reached, is_end, next_at, start_state, text_lines}
@@ -41,9 +41,33 @@ Judges rules at s (line ∷ lines) outcome =
 abbrev pub JudgesTo : {S A : Type 0} → Rules S A → List ℕ → Result A Flaw → Type 0
 JudgesTo rules text outcome = Judges rules start_state rules.start (text_lines text) outcome
 
+-- the line with this number is refused for what is wrong, or memory was wanting
+abbrev pub RefusesLine : ℕ → (FlawKind → Type 0) → AnswerErr → Type 0
+RefusesLine number Wrong (errors.Refused flaw) = Wrong flaw.kind × (flaw.line ≡ number)
+RefusesLine number Wrong errors.Memory = Unit {0}
+
 -- a line with this number was judged by what was said: it means what it must and is kept, or is refused for what is wrong with
 -- it, or memory ran out
 abbrev pub Judged : {S A : Type 0} → Rules S A → S → ℕ → Item → S → Result (Unit {0}) AnswerErr → Type 0
 Judged rules s number line t (Ok u) = rules.agrees s line × (t ≡ rules.more s line)
-Judged rules s number line t (Err (errors.Refused flaw)) = rules.fails s line flaw.kind × (flaw.line ≡ number)
-Judged rules s number line t (Err errors.Memory) = Unit {0}
+Judged rules s number line t (Err e) = RefusesLine number (rules.fails s line) e
+
+-- a line keeps its form and means what it must: it leads to this state, and then this is said
+abbrev pub KeepsRules : {S A : Type 0} → Rules S A → S → Result (Item × Reached) Flaw → Reached → S → Type 0
+KeepsRules rules s (Ok next) later t = rules.agrees s next.0 × (later ≡ next.1) × (t ≡ rules.more s next.0)
+KeepsRules rules s (Err flaw) later t = ⊥
+
+-- it breaks its form or means something else, or memory ran out
+abbrev pub StopsAt : {S A : Type 0} → Rules S A → S → ℕ → Result (Item × Reached) Flaw → AnswerErr → Type 0
+StopsAt rules s number next errors.Memory = Unit {0}
+StopsAt rules s number (Ok next) (errors.Refused flaw) = rules.fails s next.0 flaw.kind × (flaw.line ≡ number)
+StopsAt rules s number (Err broken) (errors.Refused flaw) = broken ≡ flaw
+
+-- a line was judged, its form and its meaning, after lines that led to a state and said this
+abbrev pub Took : {S A : Type 0} → Rules S A → Reached → S → Line → Reached → S → Result (Unit {0}) AnswerErr → Type 0
+Took rules at s line later t (Ok u) = KeepsRules rules s (next_at at line) later t
+Took rules at s line later t (Err e) = StopsAt rules s at.0 (next_at at line) e
+
+-- what comes of a text where no line is left: this, or the flaw of a missing line
+abbrev pub at_end : {A : Type 0} → Reached → A → Result A AnswerErr
+at_end at a = if is_end at.1 then Ok a else Err (errors.Refused (syntax at.0))

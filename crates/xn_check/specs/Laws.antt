@@ -3,6 +3,8 @@ use Rattle.std.specs.Prelude.{◌≡◌, ℕ, ◌^◌, ◌<◌, ◌↔◌, List,
 use Rattle.xn_model.specs.Drawing.{IsAtMost, IsListedDrawing, IsAtLeast, order_of}
 use Rattle.xn_model.specs.Graph.{Graph, IsGraph}
 use Rattle.xn_model.specs.Orders.{crossing_count}
+use Rattle.xn_draw.specs.Seen.{IsSeen}
+use Rattle.xn_draw.specs.declared.results.Seen.{Seen}
 use Rattle.xn_kinds.specs.Tree.{Accepts}
 use Rattle.xn_kinds.specs.declared.answers.Answer.{Answer}
 use Rattle.xn_kinds.specs.declared.drawings.Drawing.{Drawing}
@@ -11,7 +13,7 @@ use Rattle.xn_kinds.specs.declared.rows.Row.{Row}
 use Rattle.xn_kinds.specs.declared.trees.Node.{Node}
 use Rattle.xn_proof.specs.Spelling.{text_of}
 use Rattle.xn_proof.specs.WellFormed.{WellFormed}
-use Rattle.xn_check.specs.Verdict.{DrawVerdict, Verdict}
+use Rattle.xn_check.specs.Verdict.{DrawVerdict, FrontVerdict, Verdict}
 
 -- the text is the one spelling of the answer, which is one for the graph and so many loops: it has a drawing of the graph with
 -- `upper` crossings
@@ -32,6 +34,14 @@ abbrev pub SpellsProof : Graph → ℕ → List ℕ → ℕ → ℕ → Type 0
 SpellsProof g loops text lower upper =
     (a : Answer) × Spells g loops text a × (a.lower ≡ lower) × (a.upper ≡ upper) × Accepts g lower a.rows a.tree
 
+-- the text is the one spelling of an answer whose drawing is one of its graph with `upper` crossings, and this is seen of it
+pub record SpellsFront (text : List ℕ) (seen : Seen) : Type 0 where
+  pub answer : Answer
+  pub well_formed : WellFormed answer
+  pub text_is : text ≡ text_of answer
+  pub is_seen : IsSeen answer.graph answer.drawing.orders answer.drawing.next seen
+  pub crossings : answer.upper ≡ seen.crossings
+
 -- a text has at most one verdict
 abbrev pub OneVerdict : Type 0
 OneVerdict = (g : Graph) (loops : ℕ) (text : List ℕ) (o p : Result (ℕ × ℕ) Flaw) → Verdict g loops text o → Verdict g loops text p → o ≡ p
@@ -39,6 +49,14 @@ OneVerdict = (g : Graph) (loops : ℕ) (text : List ℕ) (o p : Result (ℕ × �
 -- and at most one draw verdict
 abbrev pub OneDrawVerdict : Type 0
 OneDrawVerdict = (g : Graph) (loops : ℕ) (text : List ℕ) (o p : Result Drawing Flaw) → DrawVerdict g loops text o → DrawVerdict g loops text p → o ≡ p
+
+-- and at most one front verdict
+abbrev pub OneFrontVerdict : Type 0
+OneFrontVerdict = (text : List ℕ) (o p : Result Seen Flaw) → FrontVerdict text o → FrontVerdict text p → o ≡ p
+
+-- the front verdict gives what is seen exactly where the text spells an answer with such a drawing
+abbrev pub SeenWhereSpelled : Type 0
+SeenWhereSpelled = (text : List ℕ) (seen : Seen) → length text < 2 ^ 63 → FrontVerdict text (Ok seen) ↔ SpellsFront text seen
 
 -- the draw verdict gives a drawing exactly where the text spells an answer with this drawing
 abbrev pub DrawnWhereSpelled : Type 0

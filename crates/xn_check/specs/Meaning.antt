@@ -16,10 +16,12 @@ use Rattle.xn_kinds.specs.declared.rows.Row.{Row}
 use Rattle.xn_kinds.specs.declared.trees.Node.{Node}
 use Rattle.xn_kinds.specs.declared.trees.Node.TheVariants.{Leaf}
 use Rattle.xn_draw.specs.Flaws.{IsFlaw}
+use Rattle.xn_draw.specs.Seen.{seen_of}
+use Rattle.xn_draw.specs.declared.results.Seen.{Seen}
 use Rattle.xn_proof.specs.declared.item.Item.{Item}
 use Rattle.xn_proof.specs.declared.item.Item.TheVariants as item
 use Rattle.xn_rows.specs.Holding.{IsRowFlaw}
-use Rattle.xn_check.specs.FrontSaid.{FrontSaid}
+use Rattle.xn_check.specs.FrontSaid.{FrontSaid, graph_said}
 use Rattle.xn_check.specs.RowsSaid.{row_by_list, row_by_path}
 use Rattle.xn_check.specs.Said.{Said}
 
@@ -33,13 +35,26 @@ HasDrawing g f = IsListedDrawing g f.lists f.next
 abbrev pub crossings_said : Graph → FrontSaid → ℕ
 crossings_said g f = crossing_count g (order_of g f.lists)
 
--- the line means what it must; a later line may mean anything
-abbrev pub FrontAgrees : Graph → ℕ → FrontSaid → Item → Type 0
-FrontAgrees g loops f (item.Graph nodes edges) = (nodes ≡ g.nodes) × (edges ≡ length g.ends)
-FrontAgrees g loops f (item.Loops l) = l ≡ loops
-FrontAgrees g loops f (item.Edge u v) = (u, v) ≡ ends_at g.ends f.edges
-FrontAgrees g loops f item.Drawn = HasDrawing g f × (f.upper ≡ crossings_said g f)
-FrontAgrees g loops f line = Unit {0}
+-- they are one with as many crossings as is said
+abbrev pub IsDrawn : Graph → FrontSaid → Type 0
+IsDrawn g f = HasDrawing g f × (f.upper ≡ crossings_said g f)
+
+-- the same, and this is seen of it
+abbrev pub IsSeenAs : Graph → FrontSaid → Seen → Type 0
+IsSeenAs g f seen = IsDrawn g f × (seen ≡ seen_of g f.lists f.next)
+
+-- the line means what it must by itself: the drawing is one of the graph that was said
+abbrev pub FrontAgrees : FrontSaid → Item → Type 0
+FrontAgrees f item.Drawn = IsDrawn (graph_said f) f
+FrontAgrees f line = Unit {0}
+
+-- the line means what it must for a graph and so many loops; a later line may mean anything
+abbrev pub DrawAgrees : Graph → ℕ → FrontSaid → Item → Type 0
+DrawAgrees g loops f (item.Graph nodes edges) = (nodes ≡ g.nodes) × (edges ≡ length g.ends)
+DrawAgrees g loops f (item.Loops l) = l ≡ loops
+DrawAgrees g loops f (item.Edge u v) = (u, v) ≡ ends_at g.ends (length f.ends)
+DrawAgrees g loops f item.Drawn = IsDrawn g f
+DrawAgrees g loops f line = Unit {0}
 
 -- ---- what has to be: all lines
 
@@ -54,7 +69,7 @@ Agrees g loops s (item.Path path) = IfSome (row_by_path s.rows path) (RowHolds g
 Agrees g loops s (item.Extension list) = RowHolds g (row_by_list s.rows list)
 Agrees g loops s (item.Step node) = KeepsFirst g s.front.lower s.rows.whole s.tree.pending node
 Agrees g loops s item.End = s.tree.pending ≡ []
-Agrees g loops s line = FrontAgrees g loops s.front line
+Agrees g loops s line = DrawAgrees g loops s.front line
 
 -- ---- what else is wrong, first: lines up to `drawn`
 
@@ -65,12 +80,17 @@ DrawnFails g f kind =
     ⊎ (HasDrawing g f × (f.upper ≢ crossings_said g f) × (kind ≡ kinds.Count f.upper (crossings_said g f)))
 
 -- the line means something else, and this is wrong with it
-abbrev pub FrontFails : Graph → ℕ → FrontSaid → Item → FlawKind → Type 0
-FrontFails g loops f (item.Graph nodes edges) kind = (¬ ((nodes ≡ g.nodes) × (edges ≡ length g.ends))) × (kind ≡ kinds.SizeDiffers)
-FrontFails g loops f (item.Loops l) kind = (l ≢ loops) × (kind ≡ kinds.SizeDiffers)
-FrontFails g loops f (item.Edge u v) kind = ((u, v) ≢ ends_at g.ends f.edges) × (kind ≡ kinds.GraphDiffers f.edges)
-FrontFails g loops f item.Drawn kind = DrawnFails g f kind
-FrontFails g loops f line kind = ⊥
+abbrev pub FrontBreaks : FrontSaid → Item → FlawKind → Type 0
+FrontBreaks f item.Drawn kind = DrawnFails (graph_said f) f kind
+FrontBreaks f line kind = ⊥
+
+-- the same for a graph and so many loops
+abbrev pub DrawBreaks : Graph → ℕ → FrontSaid → Item → FlawKind → Type 0
+DrawBreaks g loops f (item.Graph nodes edges) kind = (¬ ((nodes ≡ g.nodes) × (edges ≡ length g.ends))) × (kind ≡ kinds.SizeDiffers)
+DrawBreaks g loops f (item.Loops l) kind = (l ≢ loops) × (kind ≡ kinds.SizeDiffers)
+DrawBreaks g loops f (item.Edge u v) kind = ((u, v) ≢ ends_at g.ends (length f.ends)) × (kind ≡ kinds.GraphDiffers (length f.ends))
+DrawBreaks g loops f item.Drawn kind = DrawnFails g f kind
+DrawBreaks g loops f line kind = ⊥
 
 -- ---- what else is wrong, first: all lines
 
@@ -110,4 +130,4 @@ Breaks g loops s (item.Path path) kind = PathFails g (length s.rows.whole) (row_
 Breaks g loops s (item.Extension list) kind = RowFails g (length s.rows.whole) (row_by_list s.rows list) kind
 Breaks g loops s (item.Step node) kind = StepFails g s.front.lower s.rows.whole s.tree.pending s.tree.nodes node kind
 Breaks g loops s item.End kind = (s.tree.pending ≢ []) × (kind ≡ kinds.TreeShape s.tree.nodes)
-Breaks g loops s line kind = FrontFails g loops s.front line kind
+Breaks g loops s line kind = DrawBreaks g loops s.front line kind

@@ -1,23 +1,13 @@
 -- What a judge keeps of the rows and of the tree, and what the form of a line says beforehand.
 use Rattle.std.specs.Prelude.{◌≡◌, ℕ, ◌<◌, ◌≤◌, ◌⊎◌, ◌^◌, List, length, All}
-use Rattle.xn_model.specs.Graph.{Graph}
-use Rattle.xn_kinds.specs.Row.{RowHolds}
-use Rattle.xn_kinds.specs.declared.flaws.FlawKind.{FlawKind}
 use Rattle.xn_kinds.specs.declared.rows.Row.{Row}
 use Rattle.xn_kinds.specs.declared.trees.Node.{Node}
 use Rattle.xn_kinds.specs.declared.trees.Node.TheVariants.{Leaf}
-use Rattle.xn_proof.specs.declared.flaw.AnswerErr.{AnswerErr}
-use Rattle.xn_proof.specs.declared.flaw.AnswerErr.TheVariants as errors
 use Rattle.xn_proof.specs.declared.item.Item.{Item}
 use Rattle.xn_proof.specs.declared.item.Item.TheVariants as item
 use Rattle.xn_tree.specs.Walk.{Position, pending_of}
 use Rattle.xn_check.specs.RowsSaid.{RowsSaid}
 use Rattle.xn_check.specs.TreeSaid.{TreeSaid}
-
--- the line with this number is refused for what is wrong, or memory was wanting
-abbrev pub RefusesLine : ℕ → (FlawKind → Type 0) → AnswerErr → Type 0
-RefusesLine number Wrong (errors.Refused flaw) = (kind : FlawKind) × Wrong kind × (flaw ≡ record { line = number; kind = kind })
-RefusesLine number Wrong errors.Memory = Unit {0}
 
 -- ---- what the form of a line says beforehand
 
@@ -44,20 +34,13 @@ MayCome s line = Unit {0}
 
 -- ---- rows
 
-pub record RowsKept : Type 0 where
-  pub graph : Graph
-  pub said : RowsSaid
+-- what a part that keeps these says
+abbrev pub rows_kept : List Row → List ℕ → List (List ℕ) → List ℕ → List (List ℕ) → RowsSaid
+rows_kept whole listed orders branch paths = record { whole = whole; listed = listed; orders = orders; branch = branch; paths = paths }
 
-abbrev pub rows_kept : Graph → List Row → List ℕ → List (List ℕ) → List ℕ → List (List ℕ) → RowsKept
-rows_kept g whole listed orders branch paths = record {
-  graph = g;
-  said = record { whole = whole; listed = listed; orders = orders; branch = branch; paths = paths };
-}
-
--- each whole row holds, and the row that is begun has a list for each of its edges
-pub record IsRowsKept (v : RowsKept) : Type 0 where
-  pub hold : All (RowHolds v.graph) v.said.whole
-  pub lists_fit : length v.said.orders ≡ length v.said.listed
+-- the row that is begun has a list for each of its edges
+abbrev pub HasLists : RowsSaid → Type 0
+HasLists s = length s.orders ≡ length s.listed
 
 -- ---- the tree
 

@@ -1,6 +1,6 @@
 //! Laws on the verdict. Each is the contract of a function whose body only names the law that it stands on.
 ghost use Rattle.xn_check.specs.Fitting.{FormsFitRows};
-ghost use Rattle.xn_check.specs.Laws.{AcceptedHasProof, AcceptedTextBounds, AcceptedWhereSpelled, DrawnWhereSpelled, OneDrawVerdict, OneVerdict};
+ghost use Rattle.xn_check.specs.Laws.{AcceptedHasProof, AcceptedTextBounds, AcceptedWhereSpelled, DrawnWhereSpelled, OneDrawVerdict, OneFrontVerdict, OneVerdict, SeenWhereSpelled};
 
 use xn_sound::laws::accepted_proofs;
 
@@ -16,10 +16,11 @@ pub fn accepted_bounds()
     accepted_proofs();
 }
 
-/// A text has at most one verdict, and at most one draw verdict: so what the calls answer is the only one, but for want of memory.
+/// A text has at most one verdict, one draw verdict and one front verdict: so what the calls answer is the only one, but for want of memory.
 pub fn one_outcome()
     ensures verdict { OneVerdict }
     ensures draw { OneDrawVerdict }
+    ensures front { OneFrontVerdict }
 {}
 
 /// A text is accepted with its bounds exactly where it is the one spelling of an answer for the graph that has these bounds, a drawing
@@ -32,6 +33,12 @@ pub fn accepted_where_spelled()
 /// with its upper bound of crossings.
 pub fn drawn_texts()
     ensures { DrawnWhereSpelled }
+{}
+
+/// What is seen of the drawing of a text is told exactly where the text is the one spelling of an answer whose drawing is one of its
+/// graph with `upper` crossings.
+pub fn seen_texts()
+    ensures { SeenWhereSpelled }
 {}
 
 /// What the forms of lines tell of the rows, at each place: as many are whole as are said, and the numbers of leaves are those of rows.

@@ -1,9 +1,10 @@
 // The rows of an answer, line by line.
-ghost use Rattle.std.specs.Prelude.{◌≡◌, ◌+◌, ◌==◌, ◌++◌, [], ◌∷◌, IfOk, IfSome, All, MatchResult, Some, length};
+ghost use Rattle.std.specs.Prelude.{◌≡◌, ◌+◌, ◌==◌, ◌++◌, [], ◌∷◌, IfOk, IfSome, MatchResult, Some, length};
 ghost use Rattle.xn_list.specs.Lists.{lists_of};
 ghost use Rattle.xn_kinds.specs.Row.{RowHolds};
+ghost use Rattle.xn_check.specs.Judging.{RefusesLine};
 ghost use Rattle.xn_check.specs.Meaning.{PathFails, RowFails};
-ghost use Rattle.xn_check.specs.Parts.{HasRoom, IsBranch, RefusesLine};
+ghost use Rattle.xn_check.specs.Parts.{HasRoom, IsBranch};
 ghost use Rattle.xn_rows.specs.Holding.{HasPaths, HasSizes};
 ghost use Rattle.xn_check.specs.RowsSaid.{evidence_of, no_rows, paths_for, row_by_list, row_by_path, row_of, rows_said, with_row};
 
@@ -17,12 +18,11 @@ use xn_list::Sequence;
 use xn_proof::{AnswerErr, Item};
 use xn_rows::{RowErr, row_holds};
 
-/// What was said of the rows of an answer for a graph: each whole row holds.
+/// What was said of the rows of an answer.
 ///
 /// A call that fails leaves it in no known state.
 #[derive(Drop)]
-pub struct RowPart<'a> {
-    graph: &'a Graph,
+pub struct RowPart {
     whole: Vec<Row>,
     listed: Vec<u32>,
     orders: Vec<Vec<u32>>,
@@ -30,25 +30,24 @@ pub struct RowPart<'a> {
     paths: Vec<Vec<u32>>,
 }
 
-impl<'a> Model for RowPart<'a> {
+impl Model for RowPart {
     ghost use Rattle.xn_list.specs.Lists.{lists_of};
-    ghost use Rattle.xn_check.specs.Parts.{IsRowsKept, RowsKept, rows_kept};
+    ghost use Rattle.xn_check.specs.Parts.{HasLists, rows_kept};
+    ghost use Rattle.xn_check.specs.RowsSaid.{RowsSaid};
 
-    ghost Value = { RowsKept };
+    ghost Value = { RowsSaid };
 
-    ghost view = { λ s. rows_kept s.graph.now s.whole.items s.listed.items (lists_of s.orders.items) s.branch (lists_of s.paths.items) };
+    ghost view = { λ s. rows_kept s.whole.items s.listed.items (lists_of s.orders.items) s.branch (lists_of s.paths.items) };
 
-    ghost invariant = { λ s. IsRowsKept (rows_kept s.graph.now s.whole.items s.listed.items (lists_of s.orders.items) s.branch (lists_of s.paths.items)) };
+    ghost invariant = { λ s. HasLists (rows_kept s.whole.items s.listed.items (lists_of s.orders.items) s.branch (lists_of s.paths.items)) };
 }
 
-impl<'a> RowPart<'a> {
+impl RowPart {
     /// Nothing was said. No memory is taken.
-    pub fn new(alloc: Global, graph: &'a Graph) -> RowPart<'a>
-        ensures graph { result.graph ≡ graph.now }
-        ensures said { result.said ≡ no_rows }
+    pub fn new(alloc: Global) -> RowPart
+        ensures { result ≡ no_rows }
     {
         RowPart {
-            graph,
             whole: Vec::new(alloc),
             listed: Vec::new(alloc),
             orders: Vec::new(alloc),
@@ -57,125 +56,124 @@ impl<'a> RowPart<'a> {
         }
     }
 
-    /// The graph.
-    pub fn graph(&self) -> &'a Graph
-        ensures { result.now ≡ self.now.graph }
-    {
-        self.graph
-    }
-
     /// The whole rows.
     pub fn whole(&self) -> &[Row]
-        ensures whole { result.now ≡ self.now.said.whole }
-        ensures hold { All (RowHolds self.now.graph) self.now.said.whole }
+        ensures { result.now ≡ self.now.whole }
     {
         self.whole.as_slice()
     }
 
     /// An edge of the row that is begun, and those that cross it, along it.
-    pub fn over(&mut self, alloc: Global, edge: u32, list: &[u32]) -> Result<(), AllocError>
-        ensures graph { self.new.graph ≡ self.old.graph }
-        ensures said { IfOk result (λ _. self.new.said ≡ rows_said self.old.said (Item.Over edge list.now)) }
+    pub fn over(&mut self, edge: u32, list: Sequence<u32>) -> Result<(), AllocError>
+        ensures { IfOk result (λ _. self.new ≡ rows_said self.old (Item.Over edge list)) }
     {
         self.listed.reserve(1)?;
-        self.orders.push(Vec::from_slice(alloc, list)?)?;
+        self.orders.push(list.into_vec())?;
         self.listed.push_reserved(edge);
         Ok(())
     }
 
     /// The branch nodes of the row that is begun.
     pub fn branch(&mut self, branch: Sequence<u32>)
-        ensures graph { self.new.graph ≡ self.old.graph }
-        ensures said { self.new.said ≡ rows_said self.old.said (Item.Branch branch) }
+        ensures { self.new ≡ rows_said self.old (Item.Branch branch) }
     {
         self.branch = branch;
     }
 
-    /// The next path of the row that is begun, at a line with this number. Where it is the last, the row has to hold.
-    pub fn path(&mut self, alloc: Global, number: u64, path: &[u32]) -> Result<(), AnswerErr>
-        requires branch { IsBranch self.old.said.branch }
-        requires room { HasRoom (length self.old.said.whole) }
-        ensures graph { self.new.graph ≡ self.old.graph }
-        ensures said { IfOk result (λ _. self.new.said ≡ rows_said self.old.said (Item.Path path.now)) }
-        ensures judged { let row = row_by_path self.old.said path.now in
-            MatchResult result (λ _. IfSome row (RowHolds self.old.graph))
-            (RefusesLine number (PathFails self.old.graph (length self.old.said.whole) row)) }
+    /// The next path of the row that is begun, at a line with this number. Where it is the last, the row has to hold for the
+    /// graph.
+    pub fn path(
+        &mut self,
+        alloc: Global,
+        graph: &Graph,
+        number: u64,
+        path: Sequence<u32>,
+    ) -> Result<(), AnswerErr>
+        requires branch { IsBranch self.old.branch }
+        requires room { HasRoom (length self.old.whole) }
+        ensures said { IfOk result (λ _. self.new ≡ rows_said self.old (Item.Path path)) }
+        ensures judged { let row = row_by_path self.old path in
+            MatchResult result (λ _. IfSome row (RowHolds graph.now))
+            (RefusesLine number (PathFails graph.now (length self.old.whole) row)) }
     {
         let last = self.comes_to_last();
-        self.add_path(alloc, path)?;
+        self.add_path(path)?;
         if !last {
             return Ok(());
         }
         let evidence = self.take_evidence(alloc);
-        self.close(alloc, number, evidence)
+        self.close(alloc, graph, number, evidence)
     }
 
-    /// The list of segments that is the evidence of the row that is begun, at a line with this number. The row has to hold.
+    /// The list of segments that is the evidence of the row that is begun, at a line with this number. The row has to hold for
+    /// the graph.
     pub fn extension(
         &mut self,
         alloc: Global,
+        graph: &Graph,
         number: u64,
         list: Sequence<u32>,
     ) -> Result<(), AnswerErr>
-        requires room { HasRoom (length self.old.said.whole) }
-        ensures graph { self.new.graph ≡ self.old.graph }
-        ensures said { IfOk result (λ _. self.new.said ≡ rows_said self.old.said (Item.Extension list)) }
-        ensures judged { let row = row_by_list self.old.said list in
-            MatchResult result (λ _. RowHolds self.old.graph row)
-            (RefusesLine number (RowFails self.old.graph (length self.old.said.whole) row)) }
+        requires { HasRoom (length self.old.whole) }
+        ensures said { IfOk result (λ _. self.new ≡ rows_said self.old (Item.Extension list)) }
+        ensures judged { let row = row_by_list self.old list in
+            MatchResult result (λ _. RowHolds graph.now row)
+            (RefusesLine number (RowFails graph.now (length self.old.whole) row)) }
     {
-        self.close(alloc, number, Evidence::Extension { list })
+        self.close(alloc, graph, number, Evidence::Extension { list })
     }
 
     // Whether the next path is the last.
     fn comes_to_last(&self) -> bool
-        ensures { result ≡ (length self.now.said.paths + 1 == paths_for self.now.said.branch) }
+        ensures { result ≡ (length self.now.paths + 1 == paths_for self.now.branch) }
     {
         self.paths.len() + 1 == paths_for(self.branch.as_slice())
     }
 
     // One more path.
-    fn add_path(&mut self, alloc: Global, path: &[u32]) -> Result<(), AllocError>
-        ensures graph { self.new.graph ≡ self.old.graph }
-        ensures said { IfOk result (λ _. self.new.said ≡ record self.old.said { paths = self.old.said.paths ++ path.now ∷ [] }) }
+    fn add_path(&mut self, path: Sequence<u32>) -> Result<(), AllocError>
+        ensures { IfOk result (λ _. self.new ≡ record self.old { paths = self.old.paths ++ path ∷ [] }) }
     {
-        self.paths.push(Vec::from_slice(alloc, path)?)?;
+        self.paths.push(path.into_vec())?;
         Ok(())
     }
 
     // The evidence of the paths, which are taken away.
     fn take_evidence(&mut self, alloc: Global) -> Evidence
-        requires { IsBranch self.old.said.branch }
-        ensures graph { self.new.graph ≡ self.old.graph }
-        ensures evidence { result ≡ evidence_of self.old.said.branch self.old.said.paths }
-        ensures said { self.new.said ≡ record self.old.said { paths = [] } }
+        requires { IsBranch self.old.branch }
+        ensures evidence { result ≡ evidence_of self.old.branch self.old.paths }
+        ensures said { self.new ≡ record self.old { paths = [] } }
     {
         let paths = replace(&mut self.paths, Vec::new(alloc));
         evidence_of(self.branch.as_slice(), paths)
     }
 
-    // The row that is begun is whole with this evidence, and has to hold.
-    fn close(&mut self, alloc: Global, number: u64, evidence: Evidence) -> Result<(), AnswerErr>
+    // The row that is begun is whole with this evidence, and has to hold for the graph.
+    fn close(
+        &mut self,
+        alloc: Global,
+        graph: &Graph,
+        number: u64,
+        evidence: Evidence,
+    ) -> Result<(), AnswerErr>
         requires paths { HasPaths evidence }
-        requires room { HasRoom (length self.old.said.whole) }
-        ensures graph { self.new.graph ≡ self.old.graph }
-        ensures said { IfOk result (λ _. self.new.said ≡ with_row (Some (row_of self.old.said evidence)) self.old.said) }
-        ensures judged { let row = row_of self.old.said evidence in
-            MatchResult result (λ _. RowHolds self.old.graph row)
-            (RefusesLine number (RowFails self.old.graph (length self.old.said.whole) row)) }
+        requires room { HasRoom (length self.old.whole) }
+        ensures said { IfOk result (λ _. self.new ≡ with_row (Some (row_of self.old evidence)) self.old) }
+        ensures judged { let row = row_of self.old evidence in
+            MatchResult result (λ _. RowHolds graph.now row)
+            (RefusesLine number (RowFails graph.now (length self.old.whole) row)) }
     {
         let place = self.whole.len() as u32;
         let row = self.take_row(alloc, evidence);
-        test_row(alloc, self.graph, &row, number, place)?;
-        self.add_row(row)?;
+        test_row(alloc, graph, &row, number, place)?;
+        self.whole.push(row)?;
         Ok(())
     }
 
     // The row that is begun, with this evidence; then none is begun.
     fn take_row(&mut self, alloc: Global, evidence: Evidence) -> Row
-        ensures graph { self.new.graph ≡ self.old.graph }
-        ensures row { result ≡ row_of self.old.said evidence }
-        ensures said { self.new.said ≡ record no_rows { whole = self.old.said.whole } }
+        ensures row { result ≡ row_of self.old evidence }
+        ensures said { self.new ≡ record no_rows { whole = self.old.whole } }
         ensures fits { length result.orders ≡ length result.edges }
     {
         self.branch = Sequence::new(Vec::new(alloc));
@@ -185,17 +183,6 @@ impl<'a> RowPart<'a> {
             orders: Orders::new(replace(&mut self.orders, Vec::new(alloc))),
             evidence,
         }
-    }
-
-    // One more whole row, which holds.
-    fn add_row(&mut self, row: Row) -> Result<(), AllocError>
-        requires { RowHolds self.old.graph row }
-        ensures graph { self.new.graph ≡ self.old.graph }
-        ensures said { IfOk result (λ _. self.new.said ≡ record self.old.said { whole = self.old.said.whole ++ row ∷ [] }) }
-    {
-        self.whole.reserve(1)?;
-        self.whole.push_reserved(row);
-        Ok(())
     }
 }
 

@@ -1,21 +1,22 @@
 // The tree of an answer, node by node.
-ghost use Rattle.std.specs.Prelude.{◌≡◌, ◌≢◌, ◌↔◌, ◌+◌, ◌-◌, ◌<◌, ◌^◌, [], ◌∷◌, IfOk, IsTrue, List, MatchResult, length, map};
+ghost use Rattle.std.specs.Prelude.{◌≡◌, ◌≢◌, ◌↔◌, ◌+◌, ◌-◌, ◌<◌, ◌^◌, [], ◌∷◌, All, IfOk, IsTrue, List, MatchResult, length, map};
 ghost use Rattle.std.specs.List.Sorted.{IsStrictlyIncreasing};
 ghost use Rattle.xn_kinds.specs.Bound.{IsBound};
+ghost use Rattle.xn_kinds.specs.Row.{RowHolds};
 ghost use Rattle.xn_kinds.specs.State.{State};
 ghost use Rattle.xn_kinds.specs.declared.flaws.FlawKind.TheVariants.{TreeShape, Weak};
 ghost use Rattle.xn_kinds.specs.declared.trees.Node.TheVariants.{Leaf};
 ghost use Rattle.xn_tree.specs.Walk.{pending_of};
+ghost use Rattle.xn_check.specs.Judging.{RefusesLine};
 ghost use Rattle.xn_check.specs.Meaning.{KeepsFirst, StepFails, need_of};
-ghost use Rattle.xn_check.specs.Parts.{IsInRange, RefusesLine, tree_of};
+ghost use Rattle.xn_check.specs.Parts.{IsInRange, tree_of};
 ghost use Rattle.xn_check.specs.TreeSaid.{no_tree, tree_said};
 
 use crate::refusals::refused;
-use crate::row_part::RowPart;
 use std::alloc::{AllocError, Global};
 use std::marker::Model;
 use xn_graph::Graph;
-use xn_kinds::{FlawKind, Node};
+use xn_kinds::{FlawKind, Node, Row};
 use xn_proof::{AnswerErr, Item};
 use xn_tree::{TreeWalk, bound};
 
@@ -48,21 +49,27 @@ impl TreePart {
         })
     }
 
-    /// The next node, at a line with this number: it has to keep its rule in a proof of `lower` by the whole rows.
+    /// The graph.
+    pub fn graph(&self) -> &Graph
+        ensures { result.now ≡ self.now.walk.graph }
+    {
+        self.walk.graph()
+    }
+
+    /// The next node, at a line with this number: it has to keep its rule in a proof of `lower` by these rows, which hold.
     pub fn step(
         &mut self,
         number: u64,
         lower: u32,
-        rows: &RowPart,
+        rows: &[Row],
         node: &Node,
     ) -> Result<(), AnswerErr>
-        requires graph { self.old.walk.graph ≡ rows.now.graph }
-        requires range { IsInRange (length rows.now.said.whole) node.now }
+        requires hold { All (RowHolds self.old.walk.graph) rows.now }
+        requires range { IsInRange (length rows.now) node.now }
         ensures graph { self.new.walk.graph ≡ self.old.walk.graph }
         ensures said { IfOk result (λ _. tree_of self.new ≡ tree_said (tree_of self.old) (Item.Step node.now)) }
-        ensures judged { let rows = rows.now.said.whole in
-            MatchResult result (λ _. KeepsFirst self.old.walk.graph lower rows (pending_of self.old.walk) node.now)
-            (RefusesLine number (StepFails self.old.walk.graph lower rows (pending_of self.old.walk) self.old.nodes node.now)) }
+        ensures judged { MatchResult result (λ _. KeepsFirst self.old.walk.graph lower rows.now (pending_of self.old.walk) node.now)
+            (RefusesLine number (StepFails self.old.walk.graph lower rows.now (pending_of self.old.walk) self.old.nodes node.now)) }
     {
         if let Node::Leaf { d, parts } = node {
             self.test_leaf(number, lower, rows, *d, parts.as_slice())?;
@@ -91,15 +98,14 @@ impl TreePart {
         &self,
         number: u64,
         lower: u32,
-        rows: &RowPart,
+        rows: &[Row],
         d: u64,
         parts: &[(u32, u64)],
     ) -> Result<(), AnswerErr>
-        requires graph { self.now.walk.graph ≡ rows.now.graph }
-        requires range { IsInRange (length rows.now.said.whole) (Leaf d parts.now) }
-        ensures { let rows = rows.now.said.whole in
-            MatchResult result (λ _. KeepsFirst self.now.walk.graph lower rows (pending_of self.now.walk) (Leaf d parts.now))
-            (RefusesLine number (StepFails self.now.walk.graph lower rows (pending_of self.now.walk) self.now.nodes (Leaf d parts.now))) }
+        requires hold { All (RowHolds self.now.walk.graph) rows.now }
+        requires range { IsInRange (length rows.now) (Leaf d parts.now) }
+        ensures { MatchResult result (λ _. KeepsFirst self.now.walk.graph lower rows.now (pending_of self.now.walk) (Leaf d parts.now))
+            (RefusesLine number (StepFails self.now.walk.graph lower rows.now (pending_of self.now.walk) self.now.nodes (Leaf d parts.now))) }
     {
         if self.walk.is_finished() {
             return Err(self.misshapen(number));
@@ -116,13 +122,13 @@ impl TreePart {
     }
 
     // The bound of a leaf in the first pending state.
-    fn leaf_bound(&self, rows: &RowPart, d: u64, parts: &[(u32, u64)]) -> i128
-        requires graph { self.now.walk.graph ≡ rows.now.graph }
-        requires range { IsInRange (length rows.now.said.whole) (Leaf d parts.now) }
+    fn leaf_bound(&self, rows: &[Row], d: u64, parts: &[(u32, u64)]) -> i128
+        requires hold { All (RowHolds self.now.walk.graph) rows.now }
+        requires range { IsInRange (length rows.now) (Leaf d parts.now) }
         requires rise { IsStrictlyIncreasing (map (λ p. p.0) parts.now) }
-        ensures { (t : State) (rest : List State) → pending_of self.now.walk ≡ t ∷ rest → IsBound self.now.walk.graph rows.now.said.whole t d parts.now result }
+        ensures { (t : State) (rest : List State) → pending_of self.now.walk ≡ t ∷ rest → IsBound self.now.walk.graph rows.now t d parts.now result }
     {
-        bound(rows.graph(), self.walk.given(), rows.whole(), parts, d)
+        bound(self.walk.graph(), self.walk.given(), rows, parts, d)
     }
 
     // The line doesn't go on with the tree.

@@ -1,15 +1,16 @@
 // The verdict on a text, line by line.
-ghost use Rattle.xn_check.specs.Gives.{GivesDrawing, GivesVerdict};
+ghost use Rattle.xn_check.specs.Gives.{GivesDrawing, GivesSeen, GivesVerdict};
 ghost use Rattle.xn_proof.specs.Spelling.{text_of};
 ghost use Rattle.xn_proof.specs.WellFormed.{WellFormed};
 
-use crate::front::DrawingJudge;
+use crate::drawing::DrawJudge;
 use crate::judge::Judge;
-use crate::refusals::refused;
+use crate::seeing::FrontJudge;
 use std::alloc::Global;
+use xn_draw::Seen;
 use xn_graph::Graph;
-use xn_kinds::{Answer, Drawing, FlawKind};
-use xn_proof::{AnswerErr, Forms, write_answer};
+use xn_kinds::{Answer, Drawing};
+use xn_proof::{AnswerErr, write_answer};
 use xn_text::Lines;
 
 /// The bounds of an answer that is accepted.
@@ -32,19 +33,11 @@ pub fn check_text(
     ensures { GivesVerdict graph.now loops text.now result }
 {
     let mut lines = Lines::new(text);
-    let mut forms = Forms::new();
     let mut judge = Judge::new(alloc, graph, loops)?;
-    let mut number = 1;
     while let Some(line) = lines.next() {
-        let item = forms.line(alloc, line.bytes, line.ended)?;
-        judge.item(alloc, number, item)?;
-        number = number.saturating_add(1);
+        judge.line(alloc, line.bytes, line.ended)?;
     }
-    if forms.done() {
-        Ok(judge.accepted())
-    } else {
-        Err(refused(number, FlawKind::Syntax))
-    }
+    judge.finish()
 }
 
 /// The same for an answer, by its spelling.
@@ -72,17 +65,23 @@ pub fn draw_text(
     ensures { GivesDrawing graph.now loops text.now result }
 {
     let mut lines = Lines::new(text);
-    let mut forms = Forms::new();
-    let mut judge = DrawingJudge::new(alloc, graph, loops);
-    let mut number = 1;
+    let mut judge = DrawJudge::new(alloc);
     while let Some(line) = lines.next() {
-        let item = forms.line(alloc, line.bytes, line.ended)?;
-        judge.item(alloc, number, item)?;
-        number = number.saturating_add(1);
+        judge.line(alloc, graph, loops, line.bytes, line.ended)?;
     }
-    if forms.done() {
-        Ok(judge.into_drawing())
-    } else {
-        Err(refused(number, FlawKind::Syntax))
+    judge.finish()
+}
+
+/// What is seen of the drawing of a text that is an answer, whatever its graph, or the first line whose rule fails. The drawing is
+/// judged as one of the graph that the text says; the rows and the tree keep their forms, and whether they prove anything isn't
+/// judged.
+pub fn examine_text(alloc: Global, text: &[u8]) -> Result<Seen, AnswerErr>
+    ensures { GivesSeen text.now result }
+{
+    let mut lines = Lines::new(text);
+    let mut judge = FrontJudge::new(alloc);
+    while let Some(line) = lines.next() {
+        judge.line(alloc, line.bytes, line.ended)?;
     }
+    judge.finish()
 }

@@ -8,7 +8,7 @@ use Rattle.xn_model.specs.Graph.{Graph}
 use Rattle.xn_kinds.specs.Bound.{PartsFit, part_value, total_ℤ}
 use Rattle.xn_kinds.specs.Row.{Values, value_of}
 use Rattle.xn_kinds.specs.State.{State}
-use Rattle.xn_kinds.specs.Tree.{AreTrees, Keeps, children}
+use Rattle.xn_kinds.specs.Tree.{AreTrees, MayOpen, children}
 use Rattle.xn_kinds.specs.declared.rows.Row.{Row}
 use Rattle.xn_kinds.specs.declared.trees.Node.{Node}
 use Rattle.xn_kinds.specs.declared.trees.Node.TheVariants.{Pair, Place, Leaf}
@@ -37,9 +37,9 @@ module _ (g : Graph) (k : ℕ) (rows others : List Row) (name : ℕ → ℕ) whe
 
   -- the node keeps its rule with other numbers, and has the same children
   Same : State → Node → Node → Type 0
-  Same s node x = Keeps g k others s x × (children s x ≡ children s node)
+  Same s node x = MayOpen g k others s x × (children s x ≡ children s node)
 
-  node_same : (s : State) (node x : Node) → HasOtherNumbers rows others name node x → Keeps g k rows s node → Same s node x
+  node_same : (s : State) (node x : Node) → HasOtherNumbers rows others name node x → MayOpen g k rows s node → Same s node x
   unfolding Same
   node_same s (Pair e f) x is keeps = subst (Same s (Pair e f)) (sym is) (keeps, refl)
   node_same s (Place e f) x is keeps = subst (Same s (Place e f)) (sym is) (keeps, refl)
@@ -48,7 +48,7 @@ module _ (g : Graph) (k : ℕ) (rows others : List Row) (name : ℕ → ℕ) whe
       ((keeps.0, keeps.1, fits parts is.0 is.2 is.3 is.4 keeps.2, strong_alike g rows others s d parts is.0 (same_sum parts is.0 is.2 is.3) k keeps.3), refl)
 
   finish_same : (nodes xs : List Node) (pending : List State) → HaveOtherNumbers rows others name nodes xs →
-      AreTrees (Keeps g k rows) children pending nodes → AreTrees (Keeps g k others) children pending xs
+      AreTrees (MayOpen g k rows) children pending nodes → AreTrees (MayOpen g k others) children pending xs
   unfolding Same
   finish_same [] [] [] are ends = tt
   finish_same [] [] (s ∷ pending) are ends = absurd ends
@@ -58,7 +58,7 @@ module _ (g : Graph) (k : ℕ) (rows others : List Row) (name : ℕ → ℕ) whe
   finish_same (node ∷ nodes) (x ∷ xs) (s ∷ pending) are ends =
       let same = node_same s node x are.0 ends.0 in
       let rest = finish_same nodes xs (children s node ++ pending) are.1 ends.1 in
-      (same.0, subst (λ (cs : List State). AreTrees (Keeps g k others) children (cs ++ pending) xs) (sym same.1) rest)
+      (same.0, subst (λ (cs : List State). AreTrees (MayOpen g k others) children (cs ++ pending) xs) (sym same.1) rest)
 
 pub renumbered_trees_prove : RenumberedTreesProve
 renumbered_trees_prove g k rows others name s nodes xs are proves = finish_same g k rows others name nodes xs (s ∷ []) are proves

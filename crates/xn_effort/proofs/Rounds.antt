@@ -8,7 +8,7 @@ use Rattle.xn_model.specs.Limit.{limit_up_to}
 use Rattle.xn_model.specs.Lists.{total}
 use Rattle.xn_kinds.specs.Laws.{ChildrenAreStates, EmptyIsState}
 use Rattle.xn_kinds.specs.State.{State, IsState, empty_state}
-use Rattle.xn_kinds.specs.Tree.{AreTrees, Keeps, BeginTrees, children}
+use Rattle.xn_kinds.specs.Tree.{AreTrees, MayOpen, BeginTrees, children}
 use Rattle.xn_kinds.specs.declared.rows.Row.{Row}
 use Rattle.xn_kinds.specs.declared.trees.Node.{Node}
 use Rattle.xn_effort.specs.Laws.{FinishedRoundsProve, OneMoreIsOpened, OpenRoundsBegin, OpeningLowers, PendingAreStates, RootIsLimit, RoundsAreLimited, RoundsEnd, ShownRoundsAreBelow, ShownRoundsAreWithin}
@@ -59,10 +59,10 @@ pub one_more_is_opened : OneMoreIsOpened
 one_more_is_opened g t rows nodes s left node leads searches = leads_more (Searches g t rows) nodes (empty_state ∷ []) s left node leads searches
 
 pub finished_rounds_prove : FinishedRoundsProve
-finished_rounds_prove g t rows nodes leads = leads_are_trees (Searches g t rows) (Keeps g t rows) (λ s node h. h.0) nodes (empty_state ∷ []) leads
+finished_rounds_prove g t rows nodes leads = leads_are_trees (Searches g t rows) (MayOpen g t rows) (λ s node h. h.0) nodes (empty_state ∷ []) leads
 
 pub open_rounds_begin : OpenRoundsBegin
-open_rounds_begin g t rows nodes s left leads = leads_begin_trees (Searches g t rows) (Keeps g t rows) (λ x node h. h.0) nodes (empty_state ∷ []) s left leads
+open_rounds_begin g t rows nodes s left leads = leads_begin_trees (Searches g t rows) (MayOpen g t rows) (λ x node h. h.0) nodes (empty_state ∷ []) s left leads
 
 -- ---- the states that are pending
 

@@ -2,7 +2,7 @@
 use Rattle.std.specs.Prelude.{◌≡◌, ℕ, List, [], ◌∷◌, ◌++◌}
 use Rattle.xn_model.specs.Graph.{Graph}
 use Rattle.xn_kinds.specs.State.{State, empty_state}
-use Rattle.xn_kinds.specs.Tree.{Keeps, children}
+use Rattle.xn_kinds.specs.Tree.{MayOpen, children}
 use Rattle.xn_kinds.specs.declared.rows.Row.{Row}
 use Rattle.xn_kinds.specs.declared.trees.Node.{Node}
 use Rattle.xn_effort.specs.Potential.{IsSearched}
@@ -15,7 +15,7 @@ LeadOn keeps children (s ∷ pending) (node ∷ nodes) left = keeps s node × Le
 
 -- the node keeps its rule in a proof of t, and its state has fewer ones where it isn't a leaf
 abbrev pub Searches : Graph → ℕ → List Row → State → Node → Type 0
-Searches g t rows s node = Keeps g t rows s node × IsSearched g t s node
+Searches g t rows s node = MayOpen g t rows s node × IsSearched g t s node
 
 -- the nodes that round t opened, from the empty state on
 abbrev pub HasOpened : Graph → ℕ → List Row → List Node → List State → Type 0

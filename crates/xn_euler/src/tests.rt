@@ -71,8 +71,8 @@ fn delete(rt: &impl Abort, map: &mut Map, s: u32) {
     delete_edge(map, s);
 }
 
-/// Takes away the node of a dart, the least of four. The first two come together.
-fn part(rt: &impl Abort, map: &mut Map, a: u32) -> Result<(), AllocError> {
+/// Takes away the node of a dart, the least of four. The first two come together, or the second and the third.
+fn part(rt: &impl Abort, map: &mut Map, a: u32, how: Way) -> Result<(), AllocError> {
     assert!(rt; map.web().nodes() < 1 << 30);
     assert!(rt; a < 2 * map.web().segments());
     let b = map.next(a);
@@ -87,8 +87,9 @@ fn part(rt: &impl Abort, map: &mut Map, a: u32) -> Result<(), AllocError> {
     assert!(rt; c / 2 != d / 2);
     assert!(rt; c / 2 != a / 2);
     assert!(rt; c / 2 != b / 2);
+    assert!(rt; d / 2 != a / 2);
     let v = map.tail(a);
-    resolve(map, v, Way::First)
+    resolve(map, v, how)
 }
 
 /// How many segments lead between two nodes.
@@ -132,9 +133,19 @@ fn a_segment_of_a_triangle_is_deleted(rt: HostRuntime) -> Result<(), Fail> {
 fn the_crossing_of_k5_resolved(rt: HostRuntime) -> Result<(), Fail> {
     let mut k5 = map(rt.alloc(), 6, &K5, &K5_TURNS)?;
     assert_eq!(rt; k5.euler(rt.alloc())?, counts(6, 12, 8, 1));
-    part(&rt, &mut k5, 1)?;
+    part(&rt, &mut k5, 1, Way::First)?;
     assert_eq!(rt; k5.euler(rt.alloc())?, counts(5, 10, 7, 1));
     assert_eq!(rt; between(&k5, 0, 4), 2);
     assert_eq!(rt; between(&k5, 1, 3), 2);
+    Ok(())
+}
+
+#[test]
+fn the_crossing_of_k5_resolved_the_other_way(rt: HostRuntime) -> Result<(), Fail> {
+    let mut k5 = map(rt.alloc(), 6, &K5, &K5_TURNS)?;
+    part(&rt, &mut k5, 1, Way::Second)?;
+    assert_eq!(rt; k5.euler(rt.alloc())?, counts(5, 10, 7, 1));
+    assert_eq!(rt; between(&k5, 1, 4), 2);
+    assert_eq!(rt; between(&k5, 0, 3), 2);
     Ok(())
 }

@@ -1,4 +1,4 @@
-ghost use Rattle.std.specs.Prelude.{◌≡◌, ◌<◌, [], IfOk, length, slice_index_or};
+ghost use Rattle.std.specs.Prelude.{◌≡◌, ◌<◌, ◌++◌, ◌∷◌, [], IfOk, OnErr, OnOk, length, slice_index_or};
 ghost use Rattle.xn_list.specs.Lists.{lists_of};
 
 use std::alloc::{AllocError, Global};
@@ -42,6 +42,14 @@ impl Orders {
         ensures { result.now ≡ slice_index_or self.now i [] }
     {
         self.lists.at(i)
+    }
+
+    /// One list more, that of the next edge. After want of memory the orders are as before.
+    pub fn push(&mut self, list: Vec<u32>) -> Result<(), AllocError>
+        ensures ok { OnOk result (self.new ≡ self.old ++ list.items ∷ []) }
+        ensures err { OnErr result (self.new ≡ self.old) }
+    {
+        self.lists.push(list)
     }
 
     /// The same orders again. It fails only for want of memory.

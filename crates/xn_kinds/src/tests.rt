@@ -52,6 +52,46 @@ fn rows_are_copied(rt: HostRuntime) -> Result<(), Fail> {
 }
 
 #[test]
+fn each_evidence_is_copied(rt: HostRuntime) -> Result<(), Fail> {
+    let three = Evidence::ThreeThree {
+        branch: [0, 1, 2, 3, 4, 5],
+        paths: Paths::new(singles(rt.alloc(), &[7, 8])?),
+    };
+    let copy = three.copy(rt.alloc())?;
+    let Evidence::ThreeThree { branch, paths } = &copy else {
+        return Err("another kind of evidence")?;
+    };
+    assert_eq!(rt; branch.as_slice(), [0, 1, 2, 3, 4, 5].as_slice());
+    assert_eq!(rt; paths.at(1), [8].as_slice());
+    let list = Sequence::new([4, 2].to_vec(rt.alloc())?);
+    let copy = Evidence::Extension { list }.copy(rt.alloc())?;
+    let Evidence::Extension { list } = &copy else {
+        return Err("another kind of evidence")?;
+    };
+    assert_eq!(rt; list.as_slice(), [4, 2].as_slice());
+    Ok(())
+}
+
+#[test]
+fn orders_grow(rt: HostRuntime) -> Result<(), Fail> {
+    let mut orders = Orders::new(Vec::new(rt.alloc()));
+    orders.push([9].to_vec(rt.alloc())?)?;
+    orders.push(Vec::new(rt.alloc()))?;
+    assert_eq!(rt; orders.len(), 2);
+    assert_eq!(rt; orders.at(0), [9].as_slice());
+    Ok(())
+}
+
+#[test]
+fn each_node_is_copied(rt: HostRuntime) -> Result<(), Fail> {
+    let pair = Node::Pair(10, 11).copy(rt.alloc())?;
+    assert!(rt; matches!(&pair, Node::Pair(10, 11)));
+    let place = Node::Place(10, 11).copy(rt.alloc())?;
+    assert!(rt; matches!(&place, Node::Place(10, 11)));
+    Ok(())
+}
+
+#[test]
 fn trees_are_copied(rt: HostRuntime) -> Result<(), Fail> {
     let parts = Sequence::new([(0, 1)].to_vec(rt.alloc())?);
     let tree = Tree::new(vec![in rt.alloc(); Node::Pair(10, 11), Node::Leaf { d: 1, parts }]?);

@@ -42,6 +42,13 @@ impl Forms {
         }
     }
 
+    /// The number of the next line, from 1 on.
+    pub fn number(&self) -> u64
+        ensures { result ≡ self.now.0 }
+    {
+        self.number
+    }
+
     /// What the next line says, given without the byte 10, and whether it has that byte. It refuses a line that isn't of the
     /// form that may stand there, has a number outside its range, is an edge that joins a node to itself, or stands behind the
     /// end. After a refusal, or where memory was wanting, the lines taken so far are as before.

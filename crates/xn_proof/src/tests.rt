@@ -70,6 +70,27 @@ const K5: &str = "crossing-answer 1\n\
     leaf 1 1 0 1\n\
     end\n";
 
+// What stands after the rows of K5 and before its tree, in an answer with each kind of evidence and of node.
+const MORE_ROWS: &str = "row 2\n\
+    over 0 1 9\n\
+    over 9 1 0\n\
+    three 0 1 2 3 4 5\n\
+    path 1 0\n\
+    path 0\n\
+    path 2 1 3\n\
+    path 1 4\n\
+    path 1 5\n\
+    path 1 6\n\
+    path 1 7\n\
+    path 1 8\n\
+    path 1 9\n\
+    row 0\n\
+    extension 3 0 1 2\n\
+    tree\n\
+    pair 0 9\n\
+    leaf 1 2 0 1 2 5\n\
+    place 0 9\n";
+
 // Whether the line for a flaw is this one.
 fn says(alloc: Global, line: u64, kind: FlawKind, want: &str) -> Result<bool, Fail> {
     let text = write_flaw(alloc, &Flaw { line, kind })?;
@@ -84,6 +105,20 @@ fn an_answer_is_read_copied_and_written(rt: HostRuntime) -> Result<(), Fail> {
     let copy = answer.copy(rt.alloc())?;
     let text = write_answer(rt.alloc(), &copy)?;
     assert_eq!(rt; text.as_slice(), K5.as_bytes());
+    Ok(())
+}
+
+#[test]
+fn each_evidence_and_node_is_read_copied_and_written(rt: HostRuntime) -> Result<(), Fail> {
+    let alloc = rt.alloc();
+    let text = K5.replacen(alloc, "rows 1", "rows 3", 1)?;
+    let text = text.replacen(alloc, "tree\n", MORE_ROWS, 1)?;
+    let Ok(answer) = read_answer(alloc, text.as_bytes()) else {
+        return Err("no answer")?;
+    };
+    let copy = answer.copy(alloc)?;
+    let again = write_answer(alloc, &copy)?;
+    assert_eq!(rt; again.as_slice(), text.as_bytes());
     Ok(())
 }
 

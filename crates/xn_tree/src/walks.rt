@@ -60,6 +60,13 @@ impl TreeWalk {
         })
     }
 
+    /// The graph.
+    pub fn graph(&self) -> &Graph
+        ensures { result.now ≡ self.now.graph }
+    {
+        self.given.graph()
+    }
+
     /// Whether no state is pending.
     pub fn is_finished(&self) -> bool
         ensures { IsTrue result ↔ (pending_of self.now ≡ []) }

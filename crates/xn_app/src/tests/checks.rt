@@ -1,4 +1,4 @@
-use super::texts::{K4, K5, K5_AND_TWO, K5_AND_TWO_GRAPH, K5_GRAPH};
+use super::texts::{K4, K5, K5_AND_TWO, K5_AND_TWO_GRAPH, K5_GRAPH, K33, K33_GRAPH};
 use super::*;
 
 // Whether `check` of the graph and the text, in which one piece is another, writes this and ends so.
@@ -38,6 +38,17 @@ fn a_proof_of_k5_is_checked(rt: HostRuntime) -> Result<(), Fail> {
     let other_way = ("path 1 0", "path 1 1");
     let refused = "refused 61 row 0 evidence ends 0\n";
     assert!(rt; checks_so(alloc, K5_GRAPH, K5, other_way, refused, 1)?);
+    Ok(())
+}
+
+#[test]
+fn a_proof_of_k33_is_checked(rt: HostRuntime) -> Result<(), Fail> {
+    let alloc = rt.alloc();
+    assert!(rt; checks_so(alloc, K33_GRAPH, K33, ("", ""), "accepted 1 1\n", 0)?);
+    let paths = "three 0 1 2 3 4 5\npath 1 0\npath 1 1\npath 1 2\npath 1 3\npath 1 4\npath 1 5\n\
+        path 1 6\npath 1 7\npath 1 8\n";
+    let list = (paths, "extension 9 0 1 2 3 4 5 6 7 8\n");
+    assert!(rt; checks_so(alloc, K33_GRAPH, K33, list, "accepted 1 1\n", 0)?);
     Ok(())
 }
 

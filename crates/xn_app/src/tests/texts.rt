@@ -227,3 +227,83 @@ pub const K5_AND_TWO_GRAPH: &str = "graph [ \
     edge [ source 5 target 6 ] \
     edge [ source 7 target 8 ] \
     ]";
+
+/// K3,3 with one crossing, and its own evidence.
+pub const K33: &str = "crossing-answer 1\n\
+    graph 6 9\n\
+    loops 0\n\
+    edge 0 3\n\
+    edge 0 4\n\
+    edge 0 5\n\
+    edge 1 3\n\
+    edge 1 4\n\
+    edge 1 5\n\
+    edge 2 3\n\
+    edge 2 4\n\
+    edge 2 5\n\
+    bounds 1 1\n\
+    effort 1 300\n\
+    along 1 8\n\
+    along 0\n\
+    along 0\n\
+    along 0\n\
+    along 0\n\
+    along 0\n\
+    along 0\n\
+    along 0\n\
+    along 1 0\n\
+    turn 4 20\n\
+    turn 19 9\n\
+    turn 6 17\n\
+    turn 0 13\n\
+    turn 12 15\n\
+    turn 8 5\n\
+    turn 10 21\n\
+    turn 16 3\n\
+    turn 18 11\n\
+    turn 14 1\n\
+    turn 2 7\n\
+    drawn\n\
+    rows 1\n\
+    row 9\n\
+    over 0 0\n\
+    over 1 0\n\
+    over 2 0\n\
+    over 3 0\n\
+    over 4 0\n\
+    over 5 0\n\
+    over 6 0\n\
+    over 7 0\n\
+    over 8 0\n\
+    three 0 1 2 3 4 5\n\
+    path 1 0\n\
+    path 1 1\n\
+    path 1 2\n\
+    path 1 3\n\
+    path 1 4\n\
+    path 1 5\n\
+    path 1 6\n\
+    path 1 7\n\
+    path 1 8\n\
+    tree\n\
+    leaf 1 1 0 1\n\
+    end\n";
+
+/// The graph K3,3.
+pub const K33_GRAPH: &str = "graph [ \
+    node [ id 0 ] \
+    node [ id 1 ] \
+    node [ id 2 ] \
+    node [ id 3 ] \
+    node [ id 4 ] \
+    node [ id 5 ] \
+    edge [ source 0 target 3 ] \
+    edge [ source 0 target 4 ] \
+    edge [ source 0 target 5 ] \
+    edge [ source 1 target 3 ] \
+    edge [ source 1 target 4 ] \
+    edge [ source 1 target 5 ] \
+    edge [ source 2 target 3 ] \
+    edge [ source 2 target 4 ] \
+    edge [ source 2 target 5 ] \
+    ]";

@@ -1,9 +1,17 @@
-use Rattle.xn_check.proofs.Drawn.{line_on}
+use Rattle.std.proofs.lemmas.Result.{err_from_is_err_and}
+use Rattle.xn_check.proofs.Drawn.{line_on, line_stops}
 use Rattle.xn_check.proofs.verdicts.draw_text.Goals as goal
 
 pub loop-line-preserved : goal.loop-line-preserved
 loop-line-preserved c =
-    rw c.saturating_add-number.ensures
-    (line_on c.args.graph.now c.args.loops c.args.text.now c.loop-line.forms c.loop-line.judge c.loop-line.lines c.next.new.self c.loop-line.number
-    (c.in-Some.line.number, c.in-Some.line.bytes.now, c.in-Some.line.ended) c.in_ok-item.item c.line.new.self c.item.new.self
-    c.in-Some.ensures.lines c.in_ok-item.ensures.takes c.in_ok-item-2.ensures.graph c.in_ok-item-2.ensures.loops c.in_ok-item-2.ensures.judged c.loop-line.invariant)
+    line_on c.args.graph.now c.args.loops c.args.text.now c.loop-line.judge c.loop-line.lines c.loop-line.invariant c.next.new.self
+    (c.in-Some.line.number, c.in-Some.line.bytes.now, c.in-Some.line.ended) c.line.new.self c.in-Some.ensures.lines
+    c.in_ok-line.ensures.took c.in_ok-line.ensures.ready
+
+pub returns-in_err-line : goal.returns-in_err-line
+returns-in_err-line c =
+    let p = err_from_is_err_and c.from_residual.result c.from_residual.ensures.1 in
+    rw (p.1, p.2)
+    (line_stops c.args.graph.now c.args.loops c.args.text.now c.loop-line.judge c.loop-line.lines c.loop-line.invariant c.next.new.self
+    (c.in-Some.line.number, c.in-Some.line.bytes.now, c.in-Some.line.ended) c.line.new.self c.in-Some.ensures.lines
+    c.in_err-line.field-0.0 c.in_err-line.ensures.took)

@@ -1,5 +1,20 @@
-use Rattle.std.proofs.Common.{ap, arith, inl, inr, length, sym}
+use Rattle.std.proofs.Common.{◌≢◌, ◌/◌, ℕ, ap, arith, inl, inr, length, sym}
+use Rattle.xn_euler.specs.Resolving.{CanPartBy}
+use Rattle.xn_euler.specs.declared.resolution.Way.{Way}
+use Rattle.xn_euler.specs.declared.resolution.Way.TheVariants.{First, Second}
 use Rattle.xn_euler.proofs.tests.part.Goals as goal
+
+by_way : (how : Way) (a b c d : ℕ) → a / 2 ≢ b / 2 → c / 2 ≢ d / 2 → c / 2 ≢ a / 2 → c / 2 ≢ b / 2 → d / 2 ≢ a / 2 → CanPartBy how a b c d
+by_way First a b c d ab cd ca cb da = record {
+  first_two = ab;
+  last_two = cd;
+  still_two = λ one two. elim one [ inl same ↦ ca same | inr same ↦ cb same ];
+}
+by_way Second a b c d ab cd ca cb da = record {
+  first_two = λ same. cb (sym same);
+  last_two = da;
+  still_two = λ one two. elim two [ inl same ↦ ab same | inr same ↦ ca (sym same) ];
+}
 
 pub resolve-requires-clause-four : goal.resolve-requires-clause-four
 resolve-requires-clause-four g c =
@@ -17,9 +32,6 @@ resolve-requires-clause-four g c =
         to_first = omega (arith, c.next-e.ensures.value);
         least = (omega arith, omega arith, omega arith);
       },
-      record {
-        first_two = λ same. omega arith;
-        last_two = λ same. omega arith;
-        still_two = λ one two. elim one [ inl same ↦ omega arith | inr same ↦ omega arith ];
-      },
+      by_way c.args.how c.args.a c.next-b.result c.next-c.result c.next-d.result (λ same. omega arith) (λ same. omega arith) (λ same. omega arith)
+      (λ same. omega arith) (λ same. omega arith),
     )
