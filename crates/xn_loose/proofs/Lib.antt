@@ -10,6 +10,7 @@ pub mod Land
 pub mod MeetOnce
 pub mod OneMore
 pub mod OnlyWalked
+pub mod PartSums
 pub mod Renamed
 pub mod RoutesThere
 pub mod Shortest

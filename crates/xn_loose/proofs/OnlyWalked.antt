@@ -1,8 +1,8 @@
 -- The segments that are walked, in the order of the walks, are a track whose nodes with four darts are those that are passed twice.
-use Rattle.std.proofs.Common.{◌≡◌, ◌≢◌, ℕ, zero, suc, ◌+◌, ◌*◌, ◌/◌, ◌<◌, ◌≤◌, ◌⊎◌, inl, inr, Bool, true, false, eqb, ltb, List, [], ◌∷◌, length, refl, sym, ◌∙◌, ap, subst, arith}
+use Rattle.std.proofs.Common.{◌≡◌, ◌≢◌, ℕ, zero, suc, ◌+◌, ◌*◌, ◌<◌, ◌≤◌, inl, inr, Bool, true, false, eqb, List, [], ◌∷◌, length, refl, sym, ◌∙◌, ap, arith}
 use Rattle.std.specs.List.{IsDistinct, flat_map}
 use Rattle.std.specs.Prelude.{nat_eq}
-use Rattle.std.proofs.lemmas.Bool.{both_ways, cases_Bool, cases_eq, cases_order, cond-true, cond-false, eq-eqb, lt-ltb, ltb-true, ne_eqb}
+use Rattle.std.proofs.lemmas.Bool.{both_ways, cases_Bool, cases_eq, cases_lt, cases_order, cond-true, cond-false, eq-eqb, lt-ltb, ltb-true, ne_eqb}
 use Rattle.xn_model.specs.Graph.{Graph, IsGraph, ends_at}
 use Rattle.xn_model.specs.Lists.{at, has, one_if, total}
 use Rattle.xn_model.specs.Loose.{times_walked}
@@ -23,7 +23,7 @@ use Rattle.xn_loose.proofs.OneMore.{within_total}
 
 -- ---- how often a number stands in a list
 
-abbrev count_of : ℕ → List ℕ → ℕ
+abbrev pub count_of : ℕ → List ℕ → ℕ
 count_of v xs = total (λ w. one_if (eqb w v)) xs
 
 stands_once : (v : ℕ) (xs : List ℕ) → 1 ≤ count_of v xs → (i : ℕ) × (i < length xs) × (at xs i ≡ v)
@@ -47,6 +47,19 @@ stands_twice v (x ∷ xs) two = elim (cases_eq x v) [
       let none : one_if (eqb x v) ≡ 0 = ap one_if (ne_eqb x v other) in
       let rest = stands_twice v xs (omega (arith, two, none)) in
       (suc rest.0, suc rest.1, omega (arith, rest.2), omega (arith, rest.3), rest.4, rest.5)
+]
+
+stands_thrice : (v : ℕ) (xs : List ℕ) → 3 ≤ count_of v xs → (i : ℕ) × (j : ℕ) × (k : ℕ) × (i < j) × (j < k) × (k < length xs) × (at xs i ≡ v) × (at xs j ≡ v) × (at xs k ≡ v)
+stands_thrice v [] three = absurd (omega (arith, three))
+stands_thrice v (x ∷ xs) three = elim (cases_eq x v) [
+  | inl here ↦
+      let one : one_if (eqb x v) ≡ 1 = ap one_if (eq-eqb x v here) in
+      let rest = stands_twice v xs (omega (arith, three, one)) in
+      (0, suc rest.0, suc rest.1, omega arith, omega (arith, rest.2), omega (arith, rest.3), here, rest.4, rest.5)
+  | inr other ↦
+      let none : one_if (eqb x v) ≡ 0 = ap one_if (ne_eqb x v other) in
+      let rest = stands_thrice v xs (omega (arith, three, none)) in
+      (suc rest.0, suc rest.1, suc rest.2, omega (arith, rest.3), omega (arith, rest.4), omega (arith, rest.5), rest.6, rest.7, rest.8)
 ]
 
 count_one : (v : ℕ) (xs : List ℕ) (j : ℕ) → j < length xs → at xs j ≡ v → 1 ≤ count_of v xs
@@ -112,21 +125,68 @@ module _ (g : Graph) (edges : List ℕ) (web : Graph) (next : ℕ → ℕ) (four
       let at_spot : spots e ≡ spots f = ap spots eq in
       differ (omega (arith, same, at_start, at_spot))
 
+  abbrev passes : List ℕ
+  passes = all_passed edges web.ends walks
+
+  -- the pass at a place of the list
+  record At (v p : ℕ) : Type 0 where
+    pub edge : ℕ
+    pub edge_in : has edges edge ≡ true
+    pub i : ℕ
+    pub i_in : i < length (inner edge)
+    pub is : p ≡ spots edge + i
+    pub node : at (inner edge) i ≡ v
+
+  pass_at : (v p : ℕ) → p < length passes → at passes p ≡ v → At v p
+  pass_at v p p_in same =
+      let f = found_at inner edges distinct p p_in in
+      record { edge = f.0; edge_in = f.1; i = f.2; i_in = f.3; is = f.4; node = sym (at_place inner edges f.0 f.2 0 f.1 f.3) ∙ ap (at passes) (sym f.4) ∙ same }
+
+  gap_at : (v p : ℕ) (a : At v p) → G (start a.edge + a.i) v
+  gap_at v p a = gap_of a.edge a.i v a.edge_in a.i_in a.node
+
+  two_at : (v p q : ℕ) (a : At v p) (b : At v q) → p ≢ q → start a.edge + a.i ≢ start b.edge + b.i
+  two_at v p q a b differ = apart a.edge b.edge a.i b.i a.edge_in b.edge_in a.i_in b.i_in (λ same. differ (a.is ∙ same ∙ sym b.is))
+
   two_of : (v : ℕ) → twice v ≡ true → (x : ℕ) × (y : ℕ) × G x v × G y v × (x ≢ y)
   two_of v h =
-      let two = stands_twice v (all_passed edges web.ends walks) (ltb-true _ _ h) in
-      let p = found_at inner edges distinct two.0 (omega (arith, two.2, two.3)) in
-      let q = found_at inner edges distinct two.1 two.3 in
-      let p_node : at (inner p.0) p.2 ≡ v = sym (at_place inner edges p.0 p.2 0 p.1 p.3) ∙ ap (at (all_passed edges web.ends walks)) (sym p.4) ∙ two.4 in
-      let q_node : at (inner q.0) q.2 ≡ v = sym (at_place inner edges q.0 q.2 0 q.1 q.3) ∙ ap (at (all_passed edges web.ends walks)) (sym q.4) ∙ two.5 in
-      let differ : spots p.0 + p.2 ≢ spots q.0 + q.2 = λ same. omega (arith, same, p.4, q.4, two.2) in
-      (start p.0 + p.2, start q.0 + q.2, gap_of p.0 p.2 v p.1 p.3 p_node, gap_of q.0 q.2 v q.1 q.3 q_node, apart p.0 q.0 p.2 q.2 p.1 q.1 p.3 q.3 differ)
+      let two = stands_twice v passes (ltb-true _ _ h) in
+      let a = pass_at v two.0 (omega (arith, two.2, two.3)) two.4 in
+      let b = pass_at v two.1 two.3 two.5 in
+      (start a.edge + a.i, start b.edge + b.i, gap_at v two.0 a, gap_at v two.1 b, two_at v two.0 two.1 a b (λ same. omega (arith, same, two.2)))
+
+  -- no node is passed three times
+  pub at_most_two : (v : ℕ) → count_of v passes ≤ 2
+  at_most_two v = elim (cases_lt 2 (count_of v passes)) [
+    | inr few ↦ few
+    | inl many ↦
+        let three = stands_thrice v passes many in
+        let low = three.3 in
+        let high = three.4 in
+        let a = pass_at v three.0 (omega (arith, low, high, three.5)) three.6 in
+        let b = pass_at v three.1 (omega (arith, high, three.5)) three.7 in
+        let c = pass_at v three.2 three.5 three.8 in
+        let ab = two_at v three.0 three.1 a b (λ same. omega (arith, same, low)) in
+        let ac = two_at v three.0 three.2 a c (λ same. omega (arith, same, low, high)) in
+        let bc = two_at v three.1 three.2 b c (λ same. omega (arith, same, high)) in
+        let two = two_gaps g edges web next four walks is_graph track _ _ v (gap_at v three.0 a) (gap_at v three.1 b) ab in
+        absurd (elim (two.only _ (gap_at v three.2 c)) [ inl same ↦ ac (sym same) | inr same ↦ bc (sym same) ])
+  ]
+
+  -- and no node of the graph is passed
+  pub none_low : (v : ℕ) → v < g.nodes → count_of v passes ≡ 0
+  none_low v low = elim (cases_eq (count_of v passes) 0) [
+    | inl none ↦ none
+    | inr some ↦
+        let one = stands_once v passes (omega (arith, some)) in
+        let high = gap_high g edges web next four walks is_graph track _ v (gap_at v one.0 (pass_at v one.0 one.1 one.2)) in
+        absurd (omega (arith, high, low))
+  ]
 
   only_of : (v : ℕ) → twice v ≡ false → (x y : ℕ) → G x v → G y v → y ≡ x
   only_of v fails x y gap hap = elim (cases_eq y x) [
     | inl same ↦ same
     | inr other ↦
-        let passes = all_passed edges web.ends walks in
         let p = spots gap.edge + gap.i in
         let q = spots hap.edge + hap.i in
         let p_in : p < length passes = place_in inner edges gap.edge gap.i gap.edge_is gap.i_in in

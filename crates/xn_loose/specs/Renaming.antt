@@ -18,4 +18,5 @@ renumbered edges ord i = if nat_lt i (length edges) then map (position_in edges)
 abbrev pub DrawingsOfEdgesAreDrawings : Type 0
 DrawingsOfEdgesAreDrawings =
     (g : Graph) (edges : List ℕ) (ord : ℕ → List ℕ) (next : ℕ → ℕ) → IsDrawingOf g edges ord next →
-    IsDrawing (graph_of g edges) (renumbered edges ord) next × (crossing_count (graph_of g edges) (renumbered edges ord) ≡ length (crossings_of edges ord))
+    IsDrawing (graph_of g edges) (renumbered edges ord) next
+    × (crossing_count (graph_of g edges) (renumbered edges ord) ≡ length (crossings_of edges ord))

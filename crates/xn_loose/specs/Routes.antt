@@ -32,9 +32,10 @@ dart_on last d = if d % 2 == 0 then 2 * last else 2 * (d / 2) + 1
 abbrev pub dart_back : ℕ → ℕ → ℕ
 dart_back last d = if d % 2 == 0 then 2 * (d / 2) + 1 else 2 * last
 
--- the segment of d is divided at a new node, and a segment leads there from the corner before y, within the face of y and d; on the other side of d the
--- corner before the dart that leads back is free
-pub record IsAcross (nodes : ℕ) (ends : List (ℕ × ℕ)) (next name : ℕ → ℕ) (whole : ℕ → Bool) (y d : ℕ) (more : List (ℕ × ℕ)) (after names : ℕ → ℕ) : Type 0 where
+-- the segment of d is divided at a new node, and a segment leads there from the corner before y, within the face of y and d;
+-- on the other side of d the corner before the dart that leads back is free
+pub record IsAcross (nodes : ℕ) (ends : List (ℕ × ℕ)) (next name : ℕ → ℕ) (whole : ℕ → Bool) (y d : ℕ) (more : List (ℕ × ℕ))
+    (after names : ℕ → ℕ) : Type 0 where
   pub is_map : IsMap (suc nodes) more after
   pub flat : MeetsEuler (suc nodes) more after
   pub size : length more ≡ suc (suc (length ends))
@@ -59,7 +60,8 @@ pub record IsAcross (nodes : ℕ) (ends : List (ℕ × ℕ)) (next name : ℕ �
 -- there is such a step where the face is whole
 abbrev pub StepsAcross : Type 0
 StepsAcross =
-    (nodes : ℕ) (ends : List (ℕ × ℕ)) (next name : ℕ → ℕ) (whole : ℕ → Bool) → IsMap nodes ends next → MeetsEuler nodes ends next → AreFaceNames ends next name whole →
+    (nodes : ℕ) (ends : List (ℕ × ℕ)) (next name : ℕ → ℕ) (whole : ℕ → Bool) → IsMap nodes ends next → MeetsEuler nodes ends next →
+    AreFaceNames ends next name whole →
     (y d : ℕ) → y < 2 * length ends → d < 2 * length ends → whole (name y) ≡ true → name y ≡ name d →
     (more : List (ℕ × ℕ)) × (after : ℕ → ℕ) × (names : ℕ → ℕ) × IsAcross nodes ends next name whole y d more after names
 
@@ -69,7 +71,8 @@ FacesHaveNames =
     (nodes : ℕ) (ends : List (ℕ × ℕ)) (next : ℕ → ℕ) → IsMap nodes ends next → (name : ℕ → ℕ) × AreFaceNames ends next name (λ c. true)
 
 -- a segment leads from the corner before y to the corner before z, at another node of the same face
-pub record IsWithin (nodes : ℕ) (ends : List (ℕ × ℕ)) (next name : ℕ → ℕ) (whole : ℕ → Bool) (y z : ℕ) (more : List (ℕ × ℕ)) (after names : ℕ → ℕ) : Type 0 where
+pub record IsWithin (nodes : ℕ) (ends : List (ℕ × ℕ)) (next name : ℕ → ℕ) (whole : ℕ → Bool) (y z : ℕ) (more : List (ℕ × ℕ))
+    (after names : ℕ → ℕ) : Type 0 where
   pub is_map : IsMap nodes more after
   pub flat : MeetsEuler nodes more after
   pub size : length more ≡ suc (length ends)
@@ -86,6 +89,7 @@ pub record IsWithin (nodes : ℕ) (ends : List (ℕ × ℕ)) (next name : ℕ �
 
 abbrev pub StepsWithin : Type 0
 StepsWithin =
-    (nodes : ℕ) (ends : List (ℕ × ℕ)) (next name : ℕ → ℕ) (whole : ℕ → Bool) → IsMap nodes ends next → MeetsEuler nodes ends next → AreFaceNames ends next name whole →
+    (nodes : ℕ) (ends : List (ℕ × ℕ)) (next name : ℕ → ℕ) (whole : ℕ → Bool) → IsMap nodes ends next → MeetsEuler nodes ends next →
+    AreFaceNames ends next name whole →
     (y z : ℕ) → y < 2 * length ends → z < 2 * length ends → whole (name y) ≡ true → name y ≡ name z → tail_of ends y ≢ tail_of ends z →
     (more : List (ℕ × ℕ)) × (after : ℕ → ℕ) × (names : ℕ → ℕ) × IsWithin nodes ends next name whole y z more after names

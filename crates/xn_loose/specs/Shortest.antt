@@ -33,7 +33,8 @@ LeastRoutesAreSimple =
 -- two joined nodes have a least length
 abbrev pub RouteLengthsAreThere : Type 0
 RouteLengthsAreThere =
-    (nodes : ℕ) (ends : List (ℕ × ℕ)) (next : ℕ → ℕ) → IsMap nodes ends next → (u v : ℕ) → u ≢ v → Joined ends u v → (r : ℕ) × IsRouteLength ends next u v r
+    (nodes : ℕ) (ends : List (ℕ × ℕ)) (next : ℕ → ℕ) → IsMap nodes ends next → (u v : ℕ) → u ≢ v → Joined ends u v →
+    (r : ℕ) × IsRouteLength ends next u v r
 
 -- with just so many crossings an edge comes into a loose drawing
 abbrev pub EdgesComeInByLeastRoutes : Type 0

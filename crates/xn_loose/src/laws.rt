@@ -1,6 +1,6 @@
 //! Laws on loose drawings. Each is the contract of a function with an empty body.
 ghost use Rattle.xn_loose.specs.Inserting.{EdgesComeIn, EdgesComeIntoLooseDrawings, EdgesJoinComponents};
-ghost use Rattle.xn_loose.specs.Parts.{PartsGiveDrawings, WalksGiveDrawings};
+ghost use Rattle.xn_loose.specs.Parts.{BoundsAddUp, PartsAddUp, PartsGiveDrawings, WalksGiveDrawings};
 ghost use Rattle.xn_loose.specs.Renaming.{DrawingsOfEdgesAreDrawings};
 ghost use Rattle.xn_loose.specs.Routes.{FacesHaveNames, StepsAcross, StepsWithin};
 ghost use Rattle.xn_loose.specs.Shortest.{EdgesComeInByLeastRoutes, LeastRoutesAreSimple, RouteLengthsAreThere, RoutesAreThere, RoutesBecomeSimple, SimpleRoutesAreRoutes};
@@ -34,7 +34,8 @@ pub fn inserting()
     ensures apart { EdgesJoinComponents }
 {}
 
-/// Joined nodes have a route, a least one meets no face twice, and along it an edge comes in with as many crossings as it is long.
+/// Joined nodes have a route, a least one meets no face twice, and along it an edge comes in, with a crossing for
+/// each segment on the way.
 pub fn shortest_routes()
     ensures there { RoutesAreThere }
     ensures routes { SimpleRoutesAreRoutes }
@@ -49,8 +50,11 @@ pub fn renaming()
     ensures { DrawingsOfEdgesAreDrawings }
 {}
 
-/// Some of the edges of a loose drawing have a drawing with no more crossings than there are nodes that their walks alone pass twice.
+/// Some of the edges of a loose drawing have a drawing with no more crossings than there are nodes that their walks
+/// alone pass twice; so lower bounds of parts without a common edge add up.
 pub fn parts()
     ensures walks { WalksGiveDrawings }
     ensures parts { PartsGiveDrawings }
+    ensures sum { PartsAddUp }
+    ensures bounds { BoundsAddUp }
 {}

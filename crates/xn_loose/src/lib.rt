@@ -1,4 +1,4 @@
-//! Loose drawings: what they have to do with simple ones, how an edge comes in along a route, and how walks that touch come apart.
+//! Loose drawings: what they have to do with simple ones, and how an edge comes in along a route.
 #![tactic(auto)]
 
 pub mod laws;

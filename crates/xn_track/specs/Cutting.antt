@@ -3,7 +3,8 @@ use Rattle.std.specs.Prelude.{◌≡◌, ◌≢◌, ℕ, suc, ◌+◌, ◌*◌, 
 use Rattle.xn_model.specs.Graph.{EndsIn}
 use Rattle.xn_model.specs.Map.{MeetsEuler, IsMap, is_lone, tail_of}
 
--- segment j of what is left stands for the segments first j to last j, which follow each other over nodes with two darts, and its node w is the node called node w
+-- segment j of what is left stands for the segments first j to last j, which follow each other over nodes with two darts, and
+-- its node w is the node called node w
 pub record IsCutting (nodes : ℕ) (ends : List (ℕ × ℕ)) (next : ℕ → ℕ) (left_nodes : ℕ) (left : List (ℕ × ℕ)) (first last node : ℕ → ℕ) : Type 0 where
   pub ends_in : EndsIn left_nodes left
   pub rise : (j : ℕ) → j < length left → first j ≤ last j

@@ -24,7 +24,8 @@ pub record MayBeRelinked (web : Graph) (next : ℕ → ℕ) (four : ℕ → Bool
   pub other : next (next a) ≢ b
 
 -- the node of a and b, whose passes are from a and from b, is split: a now leads where b did, and b where a did
-pub record IsRelinked (nodes : ℕ) (web : Graph) (next : ℕ → ℕ) (four : ℕ → Bool) (a b : ℕ) (more : Graph) (after : ℕ → ℕ) (fewer : ℕ → Bool) : Type 0 where
+pub record IsRelinked (nodes : ℕ) (web : Graph) (next : ℕ → ℕ) (four : ℕ → Bool) (a b : ℕ) (more : Graph) (after : ℕ → ℕ)
+    (fewer : ℕ → Bool) : Type 0 where
   pub x : ℕ
   pub y : ℕ
   pub split : IsSplit web.nodes web.ends next x y more.ends after

@@ -10,7 +10,8 @@ use Rattle.xn_track.specs.Track.{IsTrack}
 -- a track gives a drawing of its edges, with no more crossings than it has nodes with four darts
 abbrev pub TracksGiveDrawings : Type 0
 TracksGiveDrawings =
-    (g : Graph) (edges : List ℕ) (web : Graph) (next : ℕ → ℕ) (four : ℕ → Bool) (walks : ℕ → List ℕ) → IsGraph g → IsTrack g edges web next four walks →
+    (g : Graph) (edges : List ℕ) (web : Graph) (next : ℕ → ℕ) (four : ℕ → Bool) (walks : ℕ → List ℕ) → IsGraph g →
+    IsTrack g edges web next four walks →
     HasDrawingOf g edges (count_below web.nodes four)
 
 -- a loose drawing is a track, whose nodes with four darts are the further ones

@@ -30,12 +30,14 @@ node_after ends ds i = tail_of ends (at ds (suc i))
 -- what is after a relinking of the passes from a and from b a track with these walks
 pub record IsStep (g : Graph) (edges : List ℕ) (web : Graph) (next : ℕ → ℕ) (four : ℕ → Bool) (a b : ℕ) (walks : ℕ → List ℕ) : Type 0 where
   pub may : MayBeRelinked web next four a b
-  pub leaves : (more : Graph) (after : ℕ → ℕ) (fewer : ℕ → Bool) → IsRelinked g.nodes web next four a b more after fewer → IsTrack g edges more after fewer walks
+  pub leaves : (more : Graph) (after : ℕ → ℕ) (fewer : ℕ → Bool) → IsRelinked g.nodes web next four a b more after fewer →
+      IsTrack g edges more after fewer walks
 
 -- a walk that passes a node twice: the part between goes
 abbrev pub ClosedPartsAreCutOff : Type 0
 ClosedPartsAreCutOff =
-    (g : Graph) (edges : List ℕ) (web : Graph) (next : ℕ → ℕ) (four : ℕ → Bool) (walks : ℕ → List ℕ) → IsGraph g → IsTrack g edges web next four walks →
+    (g : Graph) (edges : List ℕ) (web : Graph) (next : ℕ → ℕ) (four : ℕ → Bool) (walks : ℕ → List ℕ) → IsGraph g →
+    IsTrack g edges web next four walks →
     (e i j : ℕ) → has edges e ≡ true → i < j → suc j < length (walks e) → node_after web.ends (walks e) i ≡ node_after web.ends (walks e) j →
     IsStep g edges web next four (reverse_of (at (walks e) i)) (reverse_of (at (walks e) j))
     (with_walk walks e (take (suc i) (walks e) ++ drop (suc j) (walks e)))
@@ -47,7 +49,8 @@ crossing_over one i two j = take (suc i) one ++ drop (suc j) two
 -- two walks from one end that pass one node: their parts up to it change places
 abbrev pub BeginningsAreExchanged : Type 0
 BeginningsAreExchanged =
-    (g : Graph) (edges : List ℕ) (web : Graph) (next : ℕ → ℕ) (four : ℕ → Bool) (walks : ℕ → List ℕ) → IsGraph g → IsTrack g edges web next four walks →
+    (g : Graph) (edges : List ℕ) (web : Graph) (next : ℕ → ℕ) (four : ℕ → Bool) (walks : ℕ → List ℕ) → IsGraph g →
+    IsTrack g edges web next four walks →
     (e f i j : ℕ) (s t : Bool) → has edges e ≡ true → has edges f ≡ true → e ≢ f → end_from g.ends e s ≡ end_from g.ends f t →
     let one : List ℕ = turned_walk s (walks e) in
     let two : List ℕ = turned_walk t (walks f) in
@@ -58,14 +61,16 @@ BeginningsAreExchanged =
 -- the passes of two nodes are relinked, one after the other
 pub record IsDoubleStep (g : Graph) (edges : List ℕ) (web : Graph) (next : ℕ → ℕ) (four : ℕ → Bool) (a b c d : ℕ) (walks : ℕ → List ℕ) : Type 0 where
   pub may : MayBeRelinked web next four a b
-  pub may_then : (more : Graph) (after : ℕ → ℕ) (fewer : ℕ → Bool) → IsRelinked g.nodes web next four a b more after fewer → MayBeRelinked more after fewer c d
+  pub may_then : (more : Graph) (after : ℕ → ℕ) (fewer : ℕ → Bool) → IsRelinked g.nodes web next four a b more after fewer →
+      MayBeRelinked more after fewer c d
   pub leaves : (more most : Graph) (after last : ℕ → ℕ) (fewer fewest : ℕ → Bool) → IsRelinked g.nodes web next four a b more after fewer →
       IsRelinked g.nodes more after fewer c d most last fewest → IsTrack g edges most last fewest walks
 
 -- two walks that pass two nodes in the same order: what follows the first changes places, and then what follows the second, so the parts between do
 abbrev pub MiddlesAreExchanged : Type 0
 MiddlesAreExchanged =
-    (g : Graph) (edges : List ℕ) (web : Graph) (next : ℕ → ℕ) (four : ℕ → Bool) (walks : ℕ → List ℕ) → IsGraph g → IsTrack g edges web next four walks →
+    (g : Graph) (edges : List ℕ) (web : Graph) (next : ℕ → ℕ) (four : ℕ → Bool) (walks : ℕ → List ℕ) → IsGraph g →
+    IsTrack g edges web next four walks →
     (e f i j k l : ℕ) (t : Bool) → has edges e ≡ true → has edges f ≡ true → e ≢ f →
     let one : List ℕ = walks e in
     let two : List ℕ = turned_walk t (walks f) in

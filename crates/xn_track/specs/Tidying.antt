@@ -45,7 +45,8 @@ HasDrawingOf g edges most = (ord : ℕ → List ℕ) × (next : ℕ → ℕ) × 
 -- the orders along the walks are those of a drawing, with no more crossings than there are nodes with four darts
 abbrev pub TracksThatMeetSimplyAreDrawings : Type 0
 TracksThatMeetSimplyAreDrawings =
-    (g : Graph) (edges : List ℕ) (web : Graph) (next : ℕ → ℕ) (four : ℕ → Bool) (walks : ℕ → List ℕ) → IsGraph g → IsTrack g edges web next four walks →
+    (g : Graph) (edges : List ℕ) (web : Graph) (next : ℕ → ℕ) (four : ℕ → Bool) (walks : ℕ → List ℕ) → IsGraph g →
+    IsTrack g edges web next four walks →
     MeetSimply g edges web.ends walks →
     let ord : ℕ → List ℕ = order_along edges web.ends walks in
     (after : ℕ → ℕ) × IsDrawingOf g edges ord after × (length (crossings_of edges ord) ≤ count_below web.nodes four)

@@ -42,7 +42,8 @@ pub record IsTrack (g : Graph) (edges : List ℕ) (web : Graph) (next : ℕ → 
 -- no walk meets a node twice, walks of edges with a common end don't meet between, and two walks meet at most once
 pub record MeetSimply (g : Graph) (edges : List ℕ) (ends : List (ℕ × ℕ)) (walks : ℕ → List ℕ) : Type 0 where
   pub itself : (e : ℕ) → has edges e ≡ true → IsDistinct nat_eq (passed ends (walks e))
-  pub apart : (e f v : ℕ) → has edges e ≡ true → has edges f ≡ true → e ≢ f → has (passed ends (walks e)) v ≡ true → has (passed ends (walks f)) v ≡ true →
+  pub apart : (e f v : ℕ) → has edges e ≡ true → has edges f ≡ true → e ≢ f → has (passed ends (walks e)) v ≡ true →
+      has (passed ends (walks f)) v ≡ true →
       Independent g.ends e f
   pub one : (e f u v : ℕ) → has edges e ≡ true → has edges f ≡ true → e ≢ f →
       has (passed ends (walks e)) u ≡ true → has (passed ends (walks f)) u ≡ true →
