@@ -63,22 +63,22 @@ module _ (web : Graph) (s : Lists) (found : AreFound web s) (w p : ℕ) (w_in : 
   few =
       let size : length t.number ≡ web.nodes = length-set s.number w n ∙ found.numbers in
       let all : (q : ℕ) → q < suc n → list_any (eqb q) t.number ≡ true = λ q low. elim (cases_lt q n) [
-            | inl old ↦
-              let place = found.placed q old in
-              let u = at s.order q in
-              let other : u ≢ w = λ same. omega (arith, few_old q old, ap (at s.number) same, new, place.1) in
-              any_at t.number u q (omega (arith, place.0, size)) (number_old u other ∙ place.1)
-            | inr last ↦
-              let here : n ≡ q = omega arith in
-              any_at t.number w q (omega (arith, w_in, size)) (number_new ∙ here)
-          ] in
+        | inl old ↦
+            let place = found.placed q old in
+            let u = at s.order q in
+            let other : u ≢ w = λ same. omega (arith, few_old q old, ap (at s.number) same, new, place.1) in
+            any_at t.number u q (omega (arith, place.0, size)) (number_old u other ∙ place.1)
+        | inr last ↦
+            let here : n ≡ q = omega arith in
+            any_at t.number w q (omega (arith, w_in, size)) (number_new ∙ here)
+      ] in
       omega (arith, le-length_from_below t.number (suc n) all, size)
     where
       few_old : (q : ℕ) → q < n → q < web.nodes
       few_old q low =
           let all : (r : ℕ) → r < n → list_any (eqb r) s.number ≡ true = λ r r_low.
-                let place = found.placed r r_low in
-                any_at s.number (at s.order r) r (omega (arith, place.0, found.numbers)) place.1 in
+          let place = found.placed r r_low in
+          any_at s.number (at s.order r) r (omega (arith, place.0, found.numbers)) place.1 in
           omega (arith, low, le-length_from_below s.number n all, found.numbers)
 
   new_found : IsFound web t w
@@ -113,24 +113,24 @@ module _ (web : Graph) (s : Lists) (found : AreFound web s) (w p : ℕ) (w_in : 
     nexts = found.nexts;
     placed = λ i low. elim (cases_lt i n) [
       | inl old ↦
-        let place = found.placed i old in
-        let u = at s.order i in
-        let other : u ≢ w = λ same. omega (arith, old, few, ap (at s.number) same, new, place.1) in
-        let is = order_old i old in
-        (omega (arith, place.0, is), ap (at t.number) is ∙ number_old u other ∙ place.1)
+          let place = found.placed i old in
+          let u = at s.order i in
+          let other : u ≢ w = λ same. omega (arith, old, few, ap (at s.number) same, new, place.1) in
+          let is = order_old i old in
+          (omega (arith, place.0, is), ap (at t.number) is ∙ number_old u other ∙ place.1)
       | inr last ↦
-        let here : i ≡ n = omega (arith, low, longer) in
-        let is : at t.order i ≡ w = ap (at t.order) here ∙ order_new in
-        (omega (arith, is, w_in), ap (at t.number) is ∙ number_new ∙ sym here)
+          let here : i ≡ n = omega (arith, low, longer) in
+          let is : at t.order i ≡ w = ap (at t.order) here ∙ order_new in
+          (omega (arith, is, w_in), ap (at t.number) is ∙ number_new ∙ sym here)
     ];
     listed = λ v v_found. elim (cases_eq v w) [
       | inl same ↦
-        let num : at t.number v ≡ n = ap (at t.number) same ∙ number_new in
-        (omega (arith, num, longer), ap (at t.order) num ∙ order_new ∙ sym same)
+          let num : at t.number v ≡ n = ap (at t.number) same ∙ number_new in
+          (omega (arith, num, longer), ap (at t.order) num ∙ order_new ∙ sym same)
       | inr other ↦
-        let old = found.listed v (was_found v v_found other) in
-        let num = number_old v other in
-        (omega (arith, num, old.0, longer), ap (at t.order) num ∙ order_old (at s.number v) old.0 ∙ old.1)
+          let old = found.listed v (was_found v v_found other) in
+          let num = number_old v other in
+          (omega (arith, num, old.0, longer), ap (at t.order) num ∙ order_old (at s.number v) old.0 ∙ old.1)
     ];
     parent_found = λ v v_found. elim (cases_eq v w) [
       | inl same ↦ subst (λ z. IsFound web t z) (sym (ap (at t.parent) same ∙ parent_new)) p_found
@@ -138,27 +138,27 @@ module _ (web : Graph) (s : Lists) (found : AreFound web s) (w p : ℕ) (w_in : 
     ];
     linked = λ v v_found up. elim (cases_eq v w) [
       | inl same ↦
-        let is : at t.parent v ≡ p = ap (at t.parent) same ∙ parent_new in
-        elim fits [
-          | inl root ↦ absurd (up (is ∙ root ∙ sym same))
-          | inr link ↦ subst (λ z. IsLinked web.ends v z) (sym is) (subst (λ z. IsLinked web.ends z p) (sym same) link.1)
-        ]
+          let is : at t.parent v ≡ p = ap (at t.parent) same ∙ parent_new in
+          elim fits [
+            | inl root ↦ absurd (up (is ∙ root ∙ sym same))
+            | inr link ↦ subst (λ z. IsLinked web.ends v z) (sym is) (subst (λ z. IsLinked web.ends z p) (sym same) link.1)
+          ]
       | inr other ↦
-        let is = parent_old v other in
-        subst (λ z. IsLinked web.ends v z) (sym is) (found.linked v (was_found v v_found other) (λ root. up (is ∙ root)))
+          let is = parent_old v other in
+          subst (λ z. IsLinked web.ends v z) (sym is) (found.linked v (was_found v v_found other) (λ root. up (is ∙ root)))
     ];
     earlier = λ v v_found up. elim (cases_eq v w) [
       | inl same ↦
-        let is : at t.parent v ≡ p = ap (at t.parent) same ∙ parent_new in
-        elim fits [
-          | inl root ↦ absurd (up (is ∙ root ∙ sym same))
-          | inr link ↦ omega (arith, (found.listed p link.0).0, ap (at t.number) is, number_old p (apart p link.0), ap (at t.number) same, number_new)
-        ]
+          let is : at t.parent v ≡ p = ap (at t.parent) same ∙ parent_new in
+          elim fits [
+            | inl root ↦ absurd (up (is ∙ root ∙ sym same))
+            | inr link ↦ omega (arith, (found.listed p link.0).0, ap (at t.number) is, number_old p (apart p link.0), ap (at t.number) same, number_new)
+          ]
       | inr other ↦
-        let is = parent_old v other in
-        let old = was_found v v_found other in
-        let u = at s.parent v in
-        omega (arith, found.earlier v old (λ root. up (is ∙ root)), ap (at t.number) is, number_old u (apart u (found.parent_found v old)), number_old v other)
+          let is = parent_old v other in
+          let old = was_found v v_found other in
+          let u = at s.parent v in
+          omega (arith, found.earlier v old (λ root. up (is ∙ root)), ap (at t.number) is, number_old u (apart u (found.parent_found v old)), number_old v other)
     ];
     tried = found.tried;
     untried = λ v v_in far. elim (cases_eq v w) [
@@ -168,11 +168,11 @@ module _ (web : Graph) (s : Lists) (found : AreFound web s) (w p : ℕ) (w_in : 
     compared = λ v i v_found low. elim (cases_eq v w) [
       | inl same ↦ absurd (omega (arith, low, ap (at s.next) same, found.untried w w_in new))
       | inr other ↦
-        let old = was_found v v_found other in
-        let u = far_end web v i in
-        let both = found.compared v i old low in
-        (still_found u both.0, elim both.1 [ | inl up ↦ inl (above_old v u both.0 up) | inr up ↦ inr (above_old u v old up) ])
-    ]
+          let old = was_found v v_found other in
+          let u = far_end web v i in
+          let both = found.compared v i old low in
+          (still_found u both.0, elim both.1 [ inl up ↦ inl (above_old v u both.0 up) | inr up ↦ inr (above_old u v old up) ])
+    ];
   }
 
   -- the search stands at the new node, if it was over before
@@ -183,7 +183,7 @@ module _ (web : Graph) (s : Lists) (found : AreFound web s) (w p : ℕ) (w_in : 
     rest = λ u u_found. elim (cases_eq u w) [
       | inl same ↦ inr (0, sym same)
       | inr other ↦ inl (done u (was_found u u_found other))
-    ]
+    ];
   }
 
   -- or stood at its parent
@@ -196,10 +196,10 @@ module _ (web : Graph) (s : Lists) (found : AreFound web s) (w p : ℕ) (w_in : 
       | inr other ↦ elim (rest u (was_found u u_found other)) [
         | inl done ↦ inl done
         | inr up ↦
-          let above = above_old u p here up in
-          inr (suc above.0, sym (iterate-step (at t.parent) above.0 w) ∙ ap (iterate (at t.parent) above.0) parent_new ∙ above.1)
+            let above = above_old u p here up in
+            inr (suc above.0, sym (iterate-step (at t.parent) above.0 w) ∙ ap (iterate (at t.parent) above.0) parent_new ∙ above.1)
       ]
-    ]
+    ];
   }
 
   pub keeps_found : KeepsFound web s t
@@ -221,11 +221,11 @@ sum_less : (n v : ℕ) (f g : ℕ → ℕ) → v < n → ((u : ℕ) → u < n �
 sum_less zero v f g v_in same less = absurd (omega (arith, v_in))
 sum_less (suc n) v f g v_in same less = elim (cases_eq n v) [
   | inl here ↦
-    let rest = sum_same n f g (λ u low. same u (omega (arith, low)) (λ e. omega (arith, e, here, low))) in
-    omega (arith, rest, less, ap f here, ap g here)
+      let rest = sum_same n f g (λ u low. same u (omega (arith, low)) (λ e. omega (arith, e, here, low))) in
+      omega (arith, rest, less, ap f here, ap g here)
   | inr other ↦
-    let rest = sum_less n v f g (omega (arith, v_in, other)) (λ u low ne. same u (omega (arith, low)) ne) less in
-    omega (arith, rest, same n (omega arith) other)
+      let rest = sum_less n v f g (omega (arith, v_in, other)) (λ u low ne. same u (omega (arith, low)) ne) less in
+      omega (arith, rest, same n (omega arith) other)
 ]
 
 less_work : (m a b x y : ℕ) → a < b → x ≤ m → (m + 1) * a + x < (m + 1) * b + y
@@ -259,14 +259,14 @@ module _ (web : Graph) (s : Lists) (c : ℕ) (at_c : IsAt web s c) (v : ℕ) (he
   far_comparable = elim (at_c.rest w far_found) [
     | inr w_up ↦ both_above (at s.parent) v w c up w_up
     | inl done ↦
-      let is = darts_of-at web.ends v i more in
-      let place = darts_of-place web.ends w (reverse_of d) (reverse_below (length web.ends) d is.0) refl in
-      let back : far_end web w place.0 ≡ v = ap (λ x. tail_of web.ends (reverse_of x)) place.2 ∙ ap (tail_of web.ends) (reverse-reverse d) ∙ is.1 in
-      let both = at_c.found.compared w place.0 far_found (omega (arith, place.1, done)) in
-      elim both.1 [
-        | inl w_up ↦ inr (subst (λ z. Above (at s.parent) w z) back w_up)
-        | inr v_up ↦ inl (subst (λ z. Above (at s.parent) z w) back v_up)
-      ]
+        let is = darts_of-at web.ends v i more in
+        let place = darts_of-place web.ends w (reverse_of d) (reverse_below (length web.ends) d is.0) refl in
+        let back : far_end web w place.0 ≡ v = ap (λ x. tail_of web.ends (reverse_of x)) place.2 ∙ ap (tail_of web.ends) (reverse-reverse d) ∙ is.1 in
+        let both = at_c.found.compared w place.0 far_found (omega (arith, place.1, done)) in
+        elim both.1 [
+          | inl w_up ↦ inr (subst (λ z. Above (at s.parent) w z) back w_up)
+          | inr v_up ↦ inl (subst (λ z. Above (at s.parent) z w) back v_up)
+        ]
   ]
 
   found_still : AreFound web r
@@ -292,10 +292,10 @@ module _ (web : Graph) (s : Lists) (c : ℕ) (at_c : IsAt web s c) (v : ℕ) (he
       | inl same ↦ elim (cases_eq j i) [
         | inr before ↦ at_c.found.compared u j u_found (omega (arith, low, ap (at r.next) same, next_here, before, ap (at s.next) same))
         | inl last ↦
-          let P : ℕ → ℕ → Type 0 = λ z k. IsFound web s (far_end web z k) × AreComparable (at s.parent) z (far_end web z k) in
-          subst (λ z. P z j) (sym same) (subst (λ k. P v k) (sym last) (far_found, far_comparable))
+            let P : ℕ → ℕ → Type 0 = λ z k. IsFound web s (far_end web z k) × AreComparable (at s.parent) z (far_end web z k) in
+            subst (λ z. P z j) (sym same) (subst (λ k. P v k) (sym last) (far_found, far_comparable))
       ]
-    ]
+    ];
   }
 
   pub still_at : IsAt web r c
@@ -308,7 +308,7 @@ module _ (web : Graph) (s : Lists) (c : ℕ) (at_c : IsAt web s c) (v : ℕ) (he
         | inl done ↦ inl (next_other u other ∙ done)
         | inr above ↦ inr above
       ]
-    ]
+    ];
   }
 
   pub less_left : (x y : ℕ) → x ≤ web.nodes →
@@ -317,7 +317,7 @@ module _ (web : Graph) (s : Lists) (c : ℕ) (at_c : IsAt web s c) (v : ℕ) (he
       let f : ℕ → ℕ = λ u. length (darts_of web.ends u) - at r.next u in
       let g : ℕ → ℕ = λ u. length (darts_of web.ends u) - at s.next u in
       less_work web.nodes (sum_below web.nodes f) (sum_below web.nodes g) x y
-        (sum_less web.nodes v f g here.0 (λ u low other. ap (λ z. length (darts_of web.ends u) - z) (next_other u other)) (omega (arith, next_here, more))) small
+      (sum_less web.nodes v f g here.0 (λ u low other. ap (λ z. length (darts_of web.ends u) - z) (next_other u other)) (omega (arith, next_here, more))) small
 
 -- ---- the steps of the search
 
@@ -327,7 +327,7 @@ module _ (web : Graph) (s : Lists) (v : ℕ) (at_v : IsAt web s v) where
   goes_past more far_found = record {
     at_w = still_at web s v at_v v at_v.here (0, refl) more far_found;
     keeps = λ u u_found. u_found;
-    less = less_left web s v at_v v at_v.here (0, refl) more far_found (at s.number v) (at s.number v) (omega (arith, at_v.here.1))
+    less = less_left web s v at_v v at_v.here (0, refl) more far_found (at s.number v) (at s.number v) (omega (arith, at_v.here.1));
   }
 
   -- a dart to a new node
@@ -337,11 +337,14 @@ module _ (web : Graph) (s : Lists) (v : ℕ) (at_v : IsAt web s v) where
       let i = at s.next v in
       let d = at (darts_of web.ends v) i in
       let dart = darts_of-at web.ends v i more in
-      let link : IsLinked web.ends w v = (reverse_of d, record {
-            inside = reverse_below (length web.ends) d dart.0;
-            from = sym is;
-            to = ap (tail_of web.ends) (reverse-reverse d) ∙ dart.1
-          }) in
+      let link : IsLinked web.ends w v = (
+        reverse_of d,
+        record {
+          inside = reverse_below (length web.ends) d dart.0;
+          from = sym is;
+          to = ap (tail_of web.ends) (reverse-reverse d) ∙ dart.1;
+        },
+      ) in
       let fits : (v ≡ w) ⊎ (IsFound web s v × IsLinked web.ends w v) = inr (at_v.here, link) in
       let t = with_node s w v in
       let at_w = at_child web s at_v.found w v w_in new fits at_v.here at_v.rest in
@@ -352,7 +355,7 @@ module _ (web : Graph) (s : Lists) (v : ℕ) (at_v : IsAt web s v) where
       record {
         at_w = still_at web t w at_w v v_found up more far_found;
         keeps = keeps_found web s at_v.found w v w_in new fits;
-        less = less_left web t w at_w v v_found up more far_found (at t.number w) (at s.number v) (omega (arith, w_found.1))
+        less = less_left web t w at_w v v_found up more far_found (at t.number w) (at s.number v) (omega (arith, w_found.1));
       }
 
   -- back to the parent
@@ -367,10 +370,10 @@ module _ (web : Graph) (s : Lists) (v : ℕ) (at_v : IsAt web s v) where
           | inl same ↦ inl (subst (λ z. IsDone web s z) same done)
           | inr further ↦ inr further
         ]
-      ]
+      ];
     };
     keeps = λ u u_found. u_found;
-    less = omega (arith, at_v.found.earlier v at_v.here other)
+    less = omega (arith, at_v.found.earlier v at_v.here other);
   }
 
   -- the end
@@ -388,12 +391,15 @@ few_darts ends v = omega (arith, darts_before-le ends (v + 1), darts_before-next
 pub explored : (web : Graph) (s now t : Lists) (root v : ℕ) (o : Option ℕ) → Exploring web s now root (Some v) → GoesOn web now t v o → Exploring web s t root o
 explored web s now t root v None before on = record {
   over = record { found = on.found; done = on.done; keeps = λ u u_found. on.keeps u (before.1.keeps u u_found) };
-  root_found = on.keeps root before.1.root_found
+  root_found = on.keeps root before.1.root_found;
 }
-explored web s now t root v (Some w) before on = (on.at_w, record {
-  keeps = λ u u_found. on.keeps u (before.1.keeps u u_found);
-  root_found = on.keeps root before.1.root_found
-})
+explored web s now t root v (Some w) before on = (
+  on.at_w,
+  record {
+    keeps = λ u u_found. on.keeps u (before.1.keeps u u_found);
+    root_found = on.keeps root before.1.root_found;
+  },
+)
 
 pub less_still : (web : Graph) (now t : Lists) (v : ℕ) (o : Option ℕ) → GoesOn web now t v o → still_left web t o < still_left web now (Some v)
 less_still web now t v None on = omega arith
@@ -422,7 +428,7 @@ found_at_first web s none = record {
   earlier = λ v found up. absurd (none_found web s none v found);
   tried = λ v v_in. omega (arith, none.untried v v_in);
   untried = λ v v_in far. none.untried v v_in;
-  compared = λ v i found low. absurd (none_found web s none v found)
+  compared = λ v i found low. absurd (none_found web s none v found);
 }
 
 -- where all nodes are found and done, it is a forest of a search
@@ -432,9 +438,9 @@ forest_from web s ends_in found done all = record {
   linked = λ v v_in. found.linked v (all v v_in);
   earlier = λ v v_in. found.earlier v (all v v_in);
   comparable = λ d d_in.
-    let v = tail_of web.ends d in
-    let v_found = all v (tail_in web.nodes web.ends ends_in d d_in) in
-    let place = darts_of-place web.ends v d d_in refl in
-    let is : far_end web v place.0 ≡ tail_of web.ends (reverse_of d) = ap (λ x. tail_of web.ends (reverse_of x)) place.2 in
-    subst (λ z. AreComparable (at s.parent) v z) is (found.compared v place.0 v_found (omega (arith, place.1, done v v_found))).1
+      let v = tail_of web.ends d in
+      let v_found = all v (tail_in web.nodes web.ends ends_in d d_in) in
+      let place = darts_of-place web.ends v d d_in refl in
+      let is : far_end web v place.0 ≡ tail_of web.ends (reverse_of d) = ap (λ x. tail_of web.ends (reverse_of x)) place.2 in
+      subst (λ z. AreComparable (at s.parent) v z) is (found.compared v place.0 v_found (omega (arith, place.1, done v v_found))).1;
 }

@@ -83,15 +83,15 @@ module _ (web : Graph) (parent number class : ℕ → ℕ) (known : IsSearched w
       let p = ends_at ends s in
       elim c.1 [
         | inl even ↦
-          let half : d / 2 ≡ s = omega arith in
-          let t : tail_of ends d ≡ p.0 = ap (tail_of ends) even ∙ tail-even ends s in
-          let h : head ends d ≡ p.1 = ap (head ends) even ∙ ap (tail_of ends) (reverse-even s) ∙ tail-odd ends s in
-          ap (λ i. later_end number (ends_at ends i)) half ∙ later_first p (omega (arith, low, ap number t, ap number h)) ∙ sym t
+            let half : d / 2 ≡ s = omega arith in
+            let t : tail_of ends d ≡ p.0 = ap (tail_of ends) even ∙ tail-even ends s in
+            let h : head ends d ≡ p.1 = ap (head ends) even ∙ ap (tail_of ends) (reverse-even s) ∙ tail-odd ends s in
+            ap (λ i. later_end number (ends_at ends i)) half ∙ later_first p (omega (arith, low, ap number t, ap number h)) ∙ sym t
         | inr odd ↦
-          let half : d / 2 ≡ s = omega arith in
-          let t : tail_of ends d ≡ p.1 = ap (tail_of ends) odd ∙ tail-odd ends s in
-          let h : head ends d ≡ p.0 = ap (head ends) odd ∙ ap (tail_of ends) (reverse-odd s) ∙ tail-even ends s in
-          ap (λ i. later_end number (ends_at ends i)) half ∙ later_second p (omega (arith, low, ap number t, ap number h)) ∙ sym t
+            let half : d / 2 ≡ s = omega arith in
+            let t : tail_of ends d ≡ p.1 = ap (tail_of ends) odd ∙ tail-odd ends s in
+            let h : head ends d ≡ p.0 = ap (head ends) odd ∙ ap (tail_of ends) (reverse-odd s) ∙ tail-even ends s in
+            ap (λ i. later_end number (ends_at ends i)) half ∙ later_second p (omega (arith, low, ap number t, ap number h)) ∙ sym t
       ]
 
   later_is_head : (d : ℕ) → d < 2 * length ends → number (tail_of ends d) < number (head ends d) → later_end number (ends_at ends (d / 2)) ≡ head ends d
@@ -112,13 +112,13 @@ module _ (web : Graph) (parent number class : ℕ → ℕ) (known : IsSearched w
       let r_in = reverse_below (length ends) d d_in in
       elim (known.forest.comparable d d_in) [
         | inl tail_up ↦
-          let low = less (tail_of ends d) (head ends d) (head_in d d_in) tail_up (no_loops d d_in) in
-          let e : head ends d ≡ L s = sym (later_is_head d d_in low) ∙ ap L half in
-          (r, reverse_half d ∙ half, record { inside = r_in; from = e; up = subst (λ z. Up z (L s)) (sym back) (subst (λ z. Up (tail_of ends d) z) e tail_up) })
+            let low = less (tail_of ends d) (head ends d) (head_in d d_in) tail_up (no_loops d d_in) in
+            let e : head ends d ≡ L s = sym (later_is_head d d_in low) ∙ ap L half in
+            (r, reverse_half d ∙ half, record { inside = r_in; from = e; up = subst (λ z. Up z (L s)) (sym back) (subst (λ z. Up (tail_of ends d) z) e tail_up) })
         | inr head_up ↦
-          let low = less (head ends d) (tail_of ends d) (node_in d d_in) head_up (λ same. no_loops d d_in (sym same)) in
-          let e : tail_of ends d ≡ L s = sym (later_is_tail d d_in low) ∙ ap L half in
-          (d, half, record { inside = d_in; from = e; up = subst (λ z. Up (head ends d) z) e head_up })
+            let low = less (head ends d) (tail_of ends d) (node_in d d_in) head_up (λ same. no_loops d d_in (sym same)) in
+            let e : tail_of ends d ≡ L s = sym (later_is_tail d d_in low) ∙ ap L half in
+            (d, half, record { inside = d_in; from = e; up = subst (λ z. Up (head ends d) z) e head_up })
       ]
 
   -- ---- segments whose later ends have one class are in one block
@@ -137,8 +137,8 @@ module _ (web : Graph) (parent number class : ℕ → ℕ) (known : IsSearched w
   one_later_end v d e one two =
       let P : ℕ → Type 0 = λ z. GoesRound ends z (head ends e) (head ends d) in
       together d e one.inside two.inside (two.from ∙ sym one.from)
-        (subst P (sym one.from) (between_above v (head ends e) (head ends d) (head_in e two.inside) (head_in d one.inside) (head_less v e two) (head_less v d one)
-          (both_above parent (head ends e) (head ends d) v two.up one.up)))
+      (subst P (sym one.from) (between_above v (head ends e) (head ends d) (head_in e two.inside) (head_in d one.inside) (head_less v e two) (head_less v d one)
+      (both_above parent (head ends e) (head ends d) v two.up one.up)))
 
   -- the dart to the parent
   record UpDart (v : ℕ) : Type 0 where
@@ -154,10 +154,13 @@ module _ (web : Graph) (parent number class : ℕ → ℕ) (known : IsSearched w
   module _ (v : ℕ) (v_in : v < web.nodes) (up : parent v ≢ v) (passes : PassesParent web parent number v) where
     abbrev p : ℕ
     p = parent v
+
     abbrev j : ℕ
     j = passes.dart
+
     abbrev x : ℕ
     x = tail_of ends j
+
     abbrev h : ℕ
     h = head ends j
 
@@ -201,7 +204,7 @@ module _ (web : Graph) (parent number class : ℕ → ℕ) (known : IsSearched w
         let h_other : h ≢ p = λ same. absurd (omega (arith, ap number same, passes.before)) in
         let over = goes_along ends p j passes.inside x_other h_other in
         goes_on ends p v x (head ends e) down (goes_on ends p x h (head ends e) over
-          (between_above p h (head ends e) h_in (head_in e hangs.inside) passes.before (head_less p e hangs) (both_above parent h (head ends e) p h_above_p hangs.up)))
+        (between_above p h (head ends e) h_in (head_in e hangs.inside) passes.before (head_less p e hangs) (both_above parent h (head ends e) p h_above_p hangs.up)))
 
     joins_parent : (d e : ℕ) → HangsAt v d → HangsAt p e → AreInOneBlock ends (d / 2) (e / 2)
     joins_parent d e one two =
@@ -228,15 +231,16 @@ module _ (web : Graph) (parent number class : ℕ → ℕ) (known : IsSearched w
   with_class (suc m) v v_in low up = elim (known.classes.cases v v_in) [
     | inl own ↦ subst (λ k. HangTogether v k) (sym own) (record { node = v_in; hangs = up; all = one_later_end v })
     | inr joined ↦
-      let p = parent v in
-      let p_in = known.forest.within v v_in in
-      let p_up = p_hangs v v_in up joined.1 in
-      let rest = with_class m p p_in (omega (arith, low, known.forest.earlier v v_in up)) p_up in
-      let mine = up_dart p p_in p_up in
-      subst (λ k. HangTogether v k) (sym joined.2) (record {
-        node = rest.node; hangs = rest.hangs;
-        all = λ d e one two. in_one_block_trans ends known.no_loop (d / 2) (mine.dart / 2) (e / 2) (joins_parent v v_in up joined.1 d mine.dart one mine.hangs) (rest.all mine.dart e mine.hangs two)
-      })
+        let p = parent v in
+        let p_in = known.forest.within v v_in in
+        let p_up = p_hangs v v_in up joined.1 in
+        let rest = with_class m p p_in (omega (arith, low, known.forest.earlier v v_in up)) p_up in
+        let mine = up_dart p p_in p_up in
+        subst (λ k. HangTogether v k) (sym joined.2) (record {
+          node = rest.node;
+          hangs = rest.hangs;
+          all = λ d e one two. in_one_block_trans ends known.no_loop (d / 2) (mine.dart / 2) (e / 2) (joins_parent v v_in up joined.1 d mine.dart one mine.hangs) (rest.all mine.dart e mine.hangs two);
+        })
   ]
 
   pub block_from_key : (s t : ℕ) → s < length ends → t < length ends → key s ≡ key t → AreInOneBlock ends s t
@@ -288,9 +292,9 @@ module _ (web : Graph) (parent number class : ℕ → ℕ) (known : IsSearched w
             | inr y_c ↦ elim (first_step parent y c y_c.0 y_c.1) [
               | inl same ↦ inl (c, up, other, (0, sym same), is)
               | inr further ↦
-                let over : Up y w = subst (λ z. Up y z) up further in
-                let low = less y w w_in over y_other in
-                inr ((λ w_y. absurd (omega (arith, low, most w y y_in w_y))), sym (passing w c d (up_in c x x_in below) up other d_in below low) ∙ is)
+                  let over : Up y w = subst (λ z. Up y z) up further in
+                  let low = less y w w_in over y_other in
+                  inr ((λ w_y. absurd (omega (arith, low, most w y y_in w_y))), sym (passing w c d (up_in c x x_in below) up other d_in below low) ∙ is)
             ]
           ]
         ]
@@ -298,17 +302,22 @@ module _ (web : Graph) (parent number class : ℕ → ℕ) (known : IsSearched w
           | inl x_up ↦ elim (decide_above web parent number known.forest (number y) w y y_in (omega arith)) [
             | inr none ↦ inr (none, is)
             | inl w_y ↦
-              let child = child_towards parent w y w_y.0 w_y.1 y_other in
-              let c = child.0 in
-              let r = reverse_of d in
-              let back : head ends r ≡ x = ap (tail_of ends) (reverse-reverse d) in
-              elim (both_above parent w x y w_y x_up) [
-                | inl below ↦ absurd (apart below)
-                | inr over ↦
-                  let low = less x w w_in over x_other in
-                  inl (c, child.1, child.2, child.3,
-                    passing w c r (up_in c y y_in child.3) child.1 child.2 (reverse_below (length ends) d d_in) child.3 (omega (arith, low, ap number back)) ∙ is)
-              ]
+                let child = child_towards parent w y w_y.0 w_y.1 y_other in
+                let c = child.0 in
+                let r = reverse_of d in
+                let back : head ends r ≡ x = ap (tail_of ends) (reverse-reverse d) in
+                elim (both_above parent w x y w_y x_up) [
+                  | inl below ↦ absurd (apart below)
+                  | inr over ↦
+                      let low = less x w w_in over x_other in
+                      inl (
+                        c,
+                        child.1,
+                        child.2,
+                        child.3,
+                        passing w c r (up_in c y y_in child.3) child.1 child.2 (reverse_below (length ends) d d_in) child.3 (omega (arith, low, ap number back)) ∙ is,
+                      )
+                ]
           ]
           | inr y_up ↦ inr ((λ w_y. apart (reaches_trans parent x y w y_up w_y)), is)
         ]
@@ -335,15 +344,18 @@ module _ (web : Graph) (parent number class : ℕ → ℕ) (known : IsSearched w
       elim (cases_eq p z) [
         | inl root ↦ ap class (sym root) ∙ rest
         | inr above ↦
-          known.classes.joined z z_in above (record {
-            dart = e; inside = e_in; below = below;
-            before = omega (arith, ap number to, child_less w c c_in up other, most c p p_in (k, is'))
-          }) ∙ rest
+            known.classes.joined z z_in above (record {
+              dart = e;
+              inside = e_in;
+              below = below;
+              before = omega (arith, ap number to, child_less w c c_in up other, most c p p_in (k, is'));
+            }) ∙ rest
       ]
 
   module _ (d : ℕ) (d_in : d < 2 * length ends) where
     abbrev w : ℕ
     w = tail_of ends d
+
     abbrev y : ℕ
     y = head ends d
 
@@ -371,8 +383,8 @@ module _ (web : Graph) (parent number class : ℕ → ℕ) (known : IsSearched w
     unfolding HasGate
     gate_of = elim (known.forest.comparable d d_in) [
       | inl up ↦
-        let child = child_towards parent w y up.0 up.1 y_other in
-        inl (child.0, child.1, child.2, child.3, sym (down child.0 child.1 child.2 child.3) ∙ sym (key_above up))
+          let child = child_towards parent w y up.0 up.1 y_other in
+          inl (child.0, child.1, child.2, child.3, sym (down child.0 child.1 child.2 child.3) ∙ sym (key_above up))
       | inr up ↦ inr ((λ w_y. absurd (omega (arith, less w y y_in w_y (no_loops d d_in), less y w w_in up y_other))), sym (key_below up))
     ]
 
@@ -400,10 +412,10 @@ module _ (web : Graph) (parent number class : ℕ → ℕ) (known : IsSearched w
   key_from_block s t one = elim one [
     | inl same ↦ ap key same
     | inr shared ↦
-      let half : (x : ℕ) → (2 * x) / 2 ≡ x = λ x. omega arith in
-      let shared' = subst (λ z. ShareCycle ends ((2 * s) / 2) z) (sym (half t)) (subst (λ z. ShareCycle ends z t) (sym (half s)) shared) in
-      let on = round_of_shared ends no_loops (2 * s) (2 * t) shared' in
-      let Q : ℕ → Type 0 = λ d. key s ≡ key (d / 2) in
-      let there : Q (2 * t) = carried ends no_loops Q (λ d held. held ∙ ap key (sym (reverse_half d))) (λ d e near held. held ∙ neighbours_agree d e near) (2 * s) (2 * t) on (ap key (sym (half s))) in
-      there ∙ ap key (half t)
+        let half : (x : ℕ) → (2 * x) / 2 ≡ x = λ x. omega arith in
+        let shared' = subst (λ z. ShareCycle ends ((2 * s) / 2) z) (sym (half t)) (subst (λ z. ShareCycle ends z t) (sym (half s)) shared) in
+        let on = round_of_shared ends no_loops (2 * s) (2 * t) shared' in
+        let Q : ℕ → Type 0 = λ d. key s ≡ key (d / 2) in
+        let there : Q (2 * t) = carried ends no_loops Q (λ d held. held ∙ ap key (sym (reverse_half d))) (λ d e near held. held ∙ neighbours_agree d e near) (2 * s) (2 * t) on (ap key (sym (half s))) in
+        there ∙ ap key (half t)
   ]

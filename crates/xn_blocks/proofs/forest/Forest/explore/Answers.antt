@@ -18,8 +18,9 @@ loop-place-init c =
       at_root web s found r r c.requires.node c.requires.new (inl refl) c.requires.done,
       record {
         keeps = keeps_found web s found r r c.requires.node c.requires.new (inl refl);
-        root_found = found_now web s found r r c.requires.node c.requires.new (inl refl)
-      })
+        root_found = found_now web s found r r c.requires.node c.requires.new (inl refl);
+      },
+    )
 
 pub loop-place-preserved : goal.loop-place-preserved
 loop-place-preserved c =
@@ -27,4 +28,4 @@ loop-place-preserved c =
     let s = lists_in c.args.self.now in
     let now = lists_in c.loop-place.self in
     explored web s now (lists_in c.go_on.new.self) c.args.root c.in-Some.v c.in_ok-place.place
-      (subst (λ o. Exploring web s now c.args.root o) c.in-Some.is c.loop-place.invariant) c.in_ok-place.ensures
+    (subst (λ o. Exploring web s now c.args.root o) c.in-Some.is c.loop-place.invariant) c.in_ok-place.ensures
