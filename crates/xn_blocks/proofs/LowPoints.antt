@@ -15,8 +15,10 @@ use Rattle.xn_blocks.specs.Growth.{IsFound, IsWhole, Lists}
 use Rattle.xn_blocks.specs.Lows.{AreAllClassed, AreClassed, AreHandedUp, AreLowPoints, AreNoted, GoesDownTo, HaveClasses, IsClassAt, IsSomeWhole, NameBlocks, lowered}
 use Rattle.xn_blocks.specs.Search.{Above, AreNodeClasses, IsSearchForest, PassesParent, later_end}
 use Rattle.xn_blocks.proofs.Climbs.{above_most}
-use Rattle.xn_blocks.proofs.Growing.{forest_from}
-use Rattle.xn_blocks.proofs.NodeClasses.{IsSearched, block_from_key, key_from_block}
+use Rattle.xn_blocks.proofs.SearchSteps.{forest_from}
+use Rattle.xn_blocks.proofs.Gates.{key_from_block}
+use Rattle.xn_blocks.proofs.NodeClasses.{block_from_key}
+use Rattle.xn_blocks.proofs.Searched.{IsSearched}
 
 -- ---- what a search gives
 

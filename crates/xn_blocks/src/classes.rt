@@ -10,7 +10,7 @@ use crate::forest::Forest;
 use std::alloc::{AllocError, Global};
 use xn_graph::{Stars, Web};
 
-/// Of each segment a node as its key: two segments have one key exactly where they are in one block. Its time is linear.
+/// Of each segment a node as its key: two segments have one key exactly where they are in one block. Linear in time.
 pub fn keys_of(alloc: Global, web: &Web, stars: &Stars) -> Result<Vec<u32>, AllocError>
     requires stars { stars.now ≡ web.now }
     requires no_loop { HasNoLoop web.now.ends }

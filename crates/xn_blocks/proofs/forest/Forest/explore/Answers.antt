@@ -1,6 +1,7 @@
 use Rattle.std.proofs.Common.{inl, refl, sym, subst, arith}
 use Rattle.xn_blocks.specs.Growth.{Exploring, IsAt, KeepsWith, lists_in}
-use Rattle.xn_blocks.proofs.Growing.{at_root, explored, few, found_now, keeps_found}
+use Rattle.xn_blocks.proofs.Growing.{at_root, few, found_now, keeps_found}
+use Rattle.xn_blocks.proofs.SearchSteps.{explored}
 use Rattle.xn_blocks.proofs.forest.Forest.explore.Goals as goal
 
 pub find-requires-clause-few : goal.find-requires-clause-few

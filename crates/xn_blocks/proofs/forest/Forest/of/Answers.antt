@@ -2,7 +2,7 @@ use Rattle.std.proofs.Common.{◌≡◌, ℕ, ◌+◌, ◌<◌, sym, subst, arit
 use Rattle.std.proofs.lemmas.List.{get_or_read}
 use Rattle.xn_model.specs.Lists.{at}
 use Rattle.xn_blocks.specs.Growth.{AllDone, AreFound, IsFound, IsOver, lists_in}
-use Rattle.xn_blocks.proofs.Growing.{all_and, found_at_first, none_found}
+use Rattle.xn_blocks.proofs.SearchSteps.{all_and, found_at_first, none_found}
 use Rattle.xn_blocks.proofs.forest.Forest.of.Goals.{then-index-nodes+in_ok-explore, else-index-nodes}
 use Rattle.xn_blocks.proofs.forest.Forest.of.Goals as goal
 
