@@ -34,17 +34,22 @@ module _ (ends : List (ℕ × ℕ)) (no_loops : (d : ℕ) → d < 2 * length end
       let t = tail_of ends f in
       let all = fs ++ e ∷ gs in
       let rest = split_path (head ends f) fs e gs v (rest_path ends u f all v path) in
-      let t_free : In t (trail ends all v) → ⊥ = first_apart t (trail ends all v) path.distinct in
-      (record {
-        walks = (path.walks.0, path.walks.1, rest.0.walks);
-        distinct = distinct_more t (trail ends fs (tail_of ends e)) (λ there. elim (trail_cases ends t fs (tail_of ends e) there) [
-          | inl front ↦ t_free (trail_front ends t fs (e ∷ gs) v front)
-          | inr at_e ↦ t_free (trail_later ends t fs (e ∷ gs) v (in_here t (tail_of ends e) (trail ends gs v) at_e))
-        ]) rest.0.distinct
-      }, rest.1, (λ y front back. elim (in_cases y t (tails ends fs) front) [
-        | inl here ↦ let P : ℕ → Type 0 = λ z. In z (trail ends all v) in t_free (subst P here (trail_later ends y fs (e ∷ gs) v back))
-        | inr on ↦ rest.2 y on back
-      ]), rest.3, rest.4)
+      let t_free : In t (trail ends all v) → ⊥ = first_apart t (trail ends all v) path.distinct in (
+        record {
+          walks = (path.walks.0, path.walks.1, rest.0.walks);
+          distinct = distinct_more t (trail ends fs (tail_of ends e)) (λ there. elim (trail_cases ends t fs (tail_of ends e) there) [
+            | inl front ↦ t_free (trail_front ends t fs (e ∷ gs) v front)
+            | inr at_e ↦ t_free (trail_later ends t fs (e ∷ gs) v (in_here t (tail_of ends e) (trail ends gs v) at_e))
+          ]) rest.0.distinct;
+        },
+        rest.1,
+        (λ y front back. elim (in_cases y t (tails ends fs) front) [
+          | inl here ↦ let P : ℕ → Type 0 = λ z. In z (trail ends all v) in t_free (subst P here (trail_later ends y fs (e ∷ gs) v back))
+          | inr on ↦ rest.2 y on back
+        ]),
+        rest.3,
+        rest.4,
+      )
 
   -- the cycle, begun at a given place
   pub round_split : (d : ℕ) (fs : List ℕ) (e : ℕ) (gs : List ℕ) → IsRound ends no_loops d (fs ++ e ∷ gs) → IsRound ends no_loops e (gs ++ d ∷ fs)
@@ -58,43 +63,47 @@ module _ (ends : List (ℕ × ℕ)) (no_loops : (d : ℕ) → d < 2 * length end
       let e_here : In t (trail ends (e ∷ gs) v) = in_here t t (trail ends gs v) refl in
       let one : IsPath ends v (d ∷ []) (head ends d) = path_one ends d round.d_in (no_loops d round.d_in) in
       let two : IsPath ends v (d ∷ fs) t = path_join ends v (d ∷ []) (head ends d) fs t one cut.0 (λ y front back. elim (in_cases y v [] front) [
-            | inr none ↦ in_none y none
-            | inl at_v ↦
-              let P : ℕ → Type 0 = λ z. In z (trail ends fs t) in
-              elim (trail_cases ends v fs t (subst P at_v back)) [
-                | inl inside ↦ cut.2 v inside (in_later v t (trail ends gs v) v_in)
-                | inr at_t ↦ let Q : ℕ → Type 0 = λ z. In z (trail ends gs v) in cut.3 (subst Q at_t v_in)
-              ]
-          ]) in
+        | inr none ↦ in_none y none
+        | inl at_v ↦
+            let P : ℕ → Type 0 = λ z. In z (trail ends fs t) in
+            elim (trail_cases ends v fs t (subst P at_v back)) [
+              | inl inside ↦ cut.2 v inside (in_later v t (trail ends gs v) v_in)
+              | inr at_t ↦ let Q : ℕ → Type 0 = λ z. In z (trail ends gs v) in cut.3 (subst Q at_t v_in)
+            ]
+      ]) in
       let whole : IsPath ends (head ends e) (gs ++ d ∷ fs) t = path_join ends (head ends e) gs v (d ∷ fs) t cut.1 two (λ y front back.
-            elim (in_cases y v (trail ends fs t) back) [
-              | inl at_v ↦ let P : ℕ → Type 0 = λ z. In z (tails ends gs) in end_apart ends gs v cut.1.distinct (subst P at_v front)
-              | inr on ↦ elim (trail_cases ends y fs t on) [
-                | inl inside ↦ cut.2 y inside (in_later y t (trail ends gs v) (tails_in ends y gs v front))
-                | inr at_t ↦ let P : ℕ → Type 0 = λ z. In z (trail ends gs v) in cut.3 (subst P at_t (tails_in ends y gs v front))
-              ]
-            ]) in
+      elim (in_cases y v (trail ends fs t) back) [
+        | inl at_v ↦ let P : ℕ → Type 0 = λ z. In z (tails ends gs) in end_apart ends gs v cut.1.distinct (subst P at_v front)
+        | inr on ↦ elim (trail_cases ends y fs t on) [
+          | inl inside ↦ cut.2 y inside (in_later y t (trail ends gs v) (tails_in ends y gs v front))
+          | inr at_t ↦ let P : ℕ → Type 0 = λ z. In z (trail ends gs v) in cut.3 (subst P at_t (tails_in ends y gs v front))
+        ]
+      ]) in
       let In_ds : ℕ → Type 0 = λ z. In z ds in
-      record { d_in = cut.4; path = whole; free = λ used. elim used [
-        | inl on ↦ elim (in_parts e gs (d ∷ fs) on) [
-          | inl front ↦ cut.3 (tails_in ends t gs v (dart_nodes ends (head ends e) gs v e cut.1.walks front).0)
-          | inr back ↦ elim (in_cases e d fs back) [
-            | inl here ↦ round.free (inl (subst In_ds here there))
-            | inr later ↦ cut.2 t (dart_nodes ends (head ends d) fs t e cut.0.walks later).0 e_here
+      record {
+        d_in = cut.4;
+        path = whole;
+        free = λ used. elim used [
+          | inl on ↦ elim (in_parts e gs (d ∷ fs) on) [
+            | inl front ↦ cut.3 (tails_in ends t gs v (dart_nodes ends (head ends e) gs v e cut.1.walks front).0)
+            | inr back ↦ elim (in_cases e d fs back) [
+              | inl here ↦ round.free (inl (subst In_ds here there))
+              | inr later ↦ cut.2 t (dart_nodes ends (head ends d) fs t e cut.0.walks later).0 e_here
+            ]
           ]
-        ]
-        | inr on ↦ elim (in_parts (reverse_of e) gs (d ∷ fs) on) [
-          | inl front ↦
-            let P : ℕ → Type 0 = λ z. In z (trail ends gs v) in
-            cut.3 (subst P (ap (tail_of ends) (reverse-reverse e)) (dart_nodes ends (head ends e) gs v (reverse_of e) cut.1.walks front).1)
-          | inr back ↦ elim (in_cases (reverse_of e) d fs back) [
-            | inl here ↦ round.free (inr (subst In_ds (sym (reverse-reverse e) ∙ ap reverse_of here) there))
-            | inr later ↦
-              cut.2 (head ends e) (dart_nodes ends (head ends d) fs t (reverse_of e) cut.0.walks later).0
-                (in_later (head ends e) t (trail ends gs v) (start_in ends (head ends e) gs v cut.1.walks))
+          | inr on ↦ elim (in_parts (reverse_of e) gs (d ∷ fs) on) [
+            | inl front ↦
+                let P : ℕ → Type 0 = λ z. In z (trail ends gs v) in
+                cut.3 (subst P (ap (tail_of ends) (reverse-reverse e)) (dart_nodes ends (head ends e) gs v (reverse_of e) cut.1.walks front).1)
+            | inr back ↦ elim (in_cases (reverse_of e) d fs back) [
+              | inl here ↦ round.free (inr (subst In_ds (sym (reverse-reverse e) ∙ ap reverse_of here) there))
+              | inr later ↦
+                  cut.2 (head ends e) (dart_nodes ends (head ends d) fs t (reverse_of e) cut.0.walks later).0
+                  (in_later (head ends e) t (trail ends gs v) (start_in ends (head ends e) gs v cut.1.walks))
+            ]
           ]
-        ]
-      ] }
+        ];
+      }
 
   module _ (Q : ℕ → Type 0) (turned : (d : ℕ) → Q d → Q (reverse_of d)) (near : (s t : ℕ) → AreNeighbours ends s t → Q s → Q t) where
     -- it goes on from the dart before
@@ -113,14 +122,16 @@ module _ (ends : List (ℕ × ℕ)) (no_loops : (d : ℕ) → d < 2 * length end
     unfolding Good
     good d fs = by_push (Good d) (λ gs round held. (held, λ e none. absurd (in_none e none)))
         (λ xs x h gs round held.
-          let P : List ℕ → Type 0 = λ zs. IsRound ends no_loops d zs in
-          let round' : IsRound ends no_loops d (xs ++ x ∷ gs) = subst P (append_assoc xs (x ∷ []) gs) round in
-          let so_far = h (x ∷ gs) round' held in
-          let at_x : Q x = from_before d xs x gs round' so_far.0 in
-          (subst Q (sym (last-append d xs x [])) at_x, λ e there. elim (in_parts e xs (x ∷ []) there) [
+        let P : List ℕ → Type 0 = λ zs. IsRound ends no_loops d zs in
+        let round' : IsRound ends no_loops d (xs ++ x ∷ gs) = subst P (append_assoc xs (x ∷ []) gs) round in
+        let so_far = h (x ∷ gs) round' held in
+        let at_x : Q x = from_before d xs x gs round' so_far.0 in (
+          subst Q (sym (last-append d xs x [])) at_x,
+          λ e there. elim (in_parts e xs (x ∷ []) there) [
             | inl front ↦ so_far.1 e front
-            | inr back ↦ elim (in_cases e x [] back) [ | inl here ↦ subst Q (sym here) at_x | inr none ↦ absurd (in_none e none) ]
-          ]))
+            | inr back ↦ elim (in_cases e x [] back) [ inl here ↦ subst Q (sym here) at_x | inr none ↦ absurd (in_none e none) ]
+          ],
+        ))
         [] fs (λ gs round held. (held, λ e none. absurd (in_none e none)))
 
     along : (d : ℕ) (ds : List ℕ) → IsRound ends no_loops d ds → Q d → (e : ℕ) → In e (d ∷ ds) → Q e
@@ -148,11 +159,14 @@ module _ (ends : List (ℕ × ℕ)) (no_loops : (d : ℕ) → d < 2 * length end
       round_of_turned r d on =
           let all = on.first ∷ on.others in
           record {
-            first = on.first; others = on.others; round = on.round; has_one = on.has_one;
+            first = on.first;
+            others = on.others;
+            round = on.round;
+            has_one = on.has_one;
             has_two = elim on.has_two [
               | inl there ↦ let P : ℕ → Type 0 = λ z. In z all in inr (subst P (sym (reverse-reverse d)) there)
               | inr there ↦ inl there
-            ]
+            ];
           }
 
       round_of_neighbour : (r x y : ℕ) → AreNeighbours ends x y → OnRound ends no_loops r x → OnRound ends no_loops r y

@@ -37,7 +37,7 @@ module _ (ends : List (ℕ × ℕ)) where
   end_in (d ∷ ds) v = in_later v (tail_of ends d) (trail ends ds v) (end_in ds v)
 
   pub trail_cases : (y : ℕ) (ds : List ℕ) (v : ℕ) → In y (trail ends ds v) → In y (tails ds) ⊎ (y ≡ v)
-  trail_cases y [] v there = elim (in_cases y v [] there) [ | inl here ↦ inr here | inr none ↦ absurd (in_none y none) ]
+  trail_cases y [] v there = elim (in_cases y v [] there) [ inl here ↦ inr here | inr none ↦ absurd (in_none y none) ]
   trail_cases y (d ∷ ds) v there = elim (in_cases y (tail_of ends d) (trail ends ds v) there) [
     | inl here ↦ inl (in_here y (tail_of ends d) (tails ds) here)
     | inr later ↦ elim (trail_cases y ds v later) [
@@ -90,7 +90,7 @@ module _ (ends : List (ℕ × ℕ)) where
     distinct = distinct_more (tail_of ends d) (head d ∷ []) (λ there. elim (in_cases (tail_of ends d) (head d) [] there) [
       | inl same ↦ other same
       | inr none ↦ in_none (tail_of ends d) none
-    ]) (one_distinct (head d))
+    ]) (one_distinct (head d));
   }
 
   -- e or its reverse is in the list
@@ -113,18 +113,19 @@ module _ (ends : List (ℕ × ℕ)) where
       let r_in : r < 2 * length ends = reverse_below (length ends) d path.walks.0 in
       let t_free : In t (trail ends ds v) → ⊥ = first_apart t (trail ends ds v) path.distinct in
       let other : tail_of ends r ≢ head r = λ same.
-            let P : ℕ → Type 0 = λ x. In x (trail ends ds v) in
-            t_free (subst P (same ∙ back) (start_in (head d) ds v path.walks.2)) in
+      let P : ℕ → Type 0 = λ x. In x (trail ends ds v) in
+      t_free (subst P (same ∙ back) (start_in (head d) ds v path.walks.2)) in
       let P : ℕ → Type 0 = λ x. IsPath ends (head d) (r ∷ []) x in
       let last : IsPath ends (head d) (r ∷ []) u = subst P (back ∙ path.walks.1) (path_one r r_in other) in
       let whole = path_join v es (head d) (r ∷ []) u before.1 last (λ y front there. elim (in_cases y (head d) (u ∷ []) there) [
-            | inl at_head ↦ let Q : ℕ → Type 0 = λ x. In x (tails es) in end_apart es (head d) before.1.distinct (subst Q at_head front)
-            | inr later ↦ elim (in_cases y u [] later) [
-              | inl at_u ↦ let Q : ℕ → Type 0 = λ x. In x (trail ends ds v) in t_free (subst Q (at_u ∙ sym path.walks.1) (before.2 y (tails_in y es (head d) front)))
-              | inr none ↦ in_none y none
-            ]
-          ]) in
-      (es ++ r ∷ [], whole,
+        | inl at_head ↦ let Q : ℕ → Type 0 = λ x. In x (tails es) in end_apart es (head d) before.1.distinct (subst Q at_head front)
+        | inr later ↦ elim (in_cases y u [] later) [
+          | inl at_u ↦ let Q : ℕ → Type 0 = λ x. In x (trail ends ds v) in t_free (subst Q (at_u ∙ sym path.walks.1) (before.2 y (tails_in y es (head d) front)))
+          | inr none ↦ in_none y none
+        ]
+      ]) in (
+        es ++ r ∷ [],
+        whole,
         (λ y there. elim (trail_parts y es (r ∷ []) u there) [
           | inl front ↦ in_later y t (trail ends ds v) (before.2 y (tails_in y es (head d) front))
           | inr later ↦ elim (in_cases y (head d) (u ∷ []) later) [
@@ -145,4 +146,5 @@ module _ (ends : List (ℕ × ℕ)) where
             | inl here ↦ in_here (reverse_of e) d ds (ap reverse_of here ∙ reverse-reverse d)
             | inr none ↦ absurd (in_none e none)
           ]
-        ]))
+        ]),
+      )

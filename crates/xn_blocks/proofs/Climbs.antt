@@ -25,11 +25,11 @@ module _ (parent : ℕ → ℕ) where
       let k = two.0 in
       elim (cases_lt j k) [
         | inl less ↦
-          let e : (k - j) + j ≡ k = omega arith in
-          inr (k - j, ap (iterate parent (k - j)) (sym one.1) ∙ sym (iterate-add parent (k - j) j v) ∙ ap (λ m. iterate parent m v) e ∙ two.1)
+            let e : (k - j) + j ≡ k = omega arith in
+            inr (k - j, ap (iterate parent (k - j)) (sym one.1) ∙ sym (iterate-add parent (k - j) j v) ∙ ap (λ m. iterate parent m v) e ∙ two.1)
         | inr more ↦
-          let e : (j - k) + k ≡ j = omega arith in
-          inl (j - k, ap (iterate parent (j - k)) (sym two.1) ∙ sym (iterate-add parent (j - k) k v) ∙ ap (λ m. iterate parent m v) e ∙ one.1)
+            let e : (j - k) + k ≡ j = omega arith in
+            inl (j - k, ap (iterate parent (j - k)) (sym two.1) ∙ sym (iterate-add parent (j - k) k v) ∙ ap (λ m. iterate parent m v) e ∙ one.1)
       ]
 
   -- the first step of a way up
@@ -60,11 +60,11 @@ module _ (web : Graph) (parent number : ℕ → ℕ) (forest : IsSearchForest we
           | inr less ↦ inr (omega (arith, less, ap number same))
         ]
         | inr up ↦
-          let step = forest.earlier c (above_in k v v_in) up in
-          elim (up_or_same k v v_in) [
-            | inl e ↦ inr (omega (arith, step, ap number e))
-            | inr less ↦ inr (omega (arith, step, less))
-          ]
+            let step = forest.earlier c (above_in k v v_in) up in
+            elim (up_or_same k v v_in) [
+              | inl e ↦ inr (omega (arith, step, ap number e))
+              | inr less ↦ inr (omega (arith, step, less))
+            ]
       ]
 
   -- what stands above has a smaller number
@@ -117,23 +117,31 @@ module _ (ends : List (ℕ × ℕ)) (w : ℕ) where
   GoesRound x y = (ds : List ℕ) × WalksTo ends x ds y × (In w (trail ends ds y) → ⊥)
 
   pub goes_nowhere : (x : ℕ) → x ≢ w → GoesRound x x
-  goes_nowhere x other = ([], refl, λ there. elim (in_cases w x [] there) [ | inl same ↦ other (sym same) | inr none ↦ in_none w none ])
+  goes_nowhere x other = ([], refl, λ there. elim (in_cases w x [] there) [ inl same ↦ other (sym same) | inr none ↦ in_none w none ])
 
   pub goes_along : (d : ℕ) → d < 2 * length ends → tail_of ends d ≢ w → head ends d ≢ w → GoesRound (tail_of ends d) (head ends d)
-  goes_along d d_in one two = (d ∷ [], (d_in, refl, refl), λ there. elim (in_cases w (tail_of ends d) (head ends d ∷ []) there) [
-    | inl same ↦ one (sym same)
-    | inr later ↦ elim (in_cases w (head ends d) [] later) [ | inl same ↦ two (sym same) | inr none ↦ in_none w none ]
-  ])
+  goes_along d d_in one two = (
+    d ∷ [],
+    (d_in, refl, refl),
+    λ there. elim (in_cases w (tail_of ends d) (head ends d ∷ []) there) [
+      | inl same ↦ one (sym same)
+      | inr later ↦ elim (in_cases w (head ends d) [] later) [ inl same ↦ two (sym same) | inr none ↦ in_none w none ]
+    ],
+  )
 
   walk_on : (x y z : ℕ) (ds es : List ℕ) → WalksTo ends x ds y → WalksTo ends y es z → WalksTo ends x (ds ++ es) z
   walk_on x y z [] es one two = let P : ℕ → Type 0 = λ u. WalksTo ends u es z in subst P (sym one) two
   walk_on x y z (d ∷ ds) es one two = (one.0, one.1, walk_on (head ends d) y z ds es one.2 two)
 
   pub goes_on : (x y z : ℕ) → GoesRound x y → GoesRound y z → GoesRound x z
-  goes_on x y z one two = (one.0 ++ two.0, walk_on x y z one.0 two.0 one.1 two.1, λ there. elim (trail_parts ends w one.0 two.0 z there) [
-    | inl front ↦ one.2 (tails_in ends w one.0 y front)
-    | inr back ↦ two.2 back
-  ])
+  goes_on x y z one two = (
+    one.0 ++ two.0,
+    walk_on x y z one.0 two.0 one.1 two.1,
+    λ there. elim (trail_parts ends w one.0 two.0 z there) [
+      | inl front ↦ one.2 (tails_in ends w one.0 y front)
+      | inr back ↦ two.2 back
+    ],
+  )
 
   back_from : (x : ℕ) (ds : List ℕ) (y : ℕ) → WalksTo ends x ds y → (In w (trail ends ds y) → ⊥) → GoesRound y x
   back_from x [] y walk free = let P : ℕ → Type 0 = λ u. GoesRound y u in subst P (sym walk) (goes_nowhere y (λ same. free (in_here w y [] (sym same))))
@@ -163,13 +171,13 @@ module _ (web : Graph) (parent number : ℕ → ℕ) (forest : IsSearchForest we
       elim (cases_eq (parent c) c) [
         | inl root ↦ let P : ℕ → Type 0 = λ u. GoesRound web.ends w x u in subst P (sym root) so_far
         | inr up ↦
-          let link = forest.linked c (above_in web parent number forest k x x_in) up in
-          let d = link.0 in
-          let one : tail_of web.ends d ≢ w = λ same. avoids c (k, refl) (1, refl) (sym link.1.from ∙ same) in
-          let two : head web.ends d ≢ w = λ same. avoids (parent c) (suc k, refl) (0, refl) (sym link.1.to ∙ same) in
-          let P : ℕ → Type 0 = λ u. GoesRound web.ends w u (parent c) in
-          let Q : ℕ → Type 0 = λ u. GoesRound web.ends w (tail_of web.ends d) u in
-          goes_on web.ends w x c (parent c) so_far (subst P link.1.from (subst Q link.1.to (goes_along web.ends w d link.1.inside one two)))
+            let link = forest.linked c (above_in web parent number forest k x x_in) up in
+            let d = link.0 in
+            let one : tail_of web.ends d ≢ w = λ same. avoids c (k, refl) (1, refl) (sym link.1.from ∙ same) in
+            let two : head web.ends d ≢ w = λ same. avoids (parent c) (suc k, refl) (0, refl) (sym link.1.to ∙ same) in
+            let P : ℕ → Type 0 = λ u. GoesRound web.ends w u (parent c) in
+            let Q : ℕ → Type 0 = λ u. GoesRound web.ends w (tail_of web.ends d) u in
+            goes_on web.ends w x c (parent c) so_far (subst P link.1.from (subst Q link.1.to (goes_along web.ends w d link.1.inside one two)))
       ]
 
   pub climb : (x y : ℕ) → x < web.nodes → Above parent y x → ((z : ℕ) → Above parent z x → Above parent y z → z ≢ w) → GoesRound web.ends w x y
@@ -202,17 +210,20 @@ module _ (ends : List (ℕ × ℕ)) where
       let y = head ends d in
       let cut = path_of ends (head ends e) round.0 y round.1 in
       record {
-        s_in = d_in; t_in = e_in; one_node = one_node;
+        s_in = d_in;
+        t_in = e_in;
+        one_node = one_node;
         differ = λ same. other (ap (λ x. x / 2) (sym same));
         differ_turned = λ same. other (sym (ap (λ x. x / 2) same ∙ reverse_half d));
-        between = cut.0; way = cut.1;
+        between = cut.0;
+        way = cut.1;
         away = λ there. elim (trail_cases ends w cut.0 y there) [
           | inl inside ↦
-            let found = tail_among w cut.0 inside in
-            let P : ℕ → Type 0 = λ u. In u (tails ends round.0) in
-            round.2 (tails_in ends w round.0 y (subst P found.2 (among_tails found.0 round.0 (cut.2 found.0 found.1))))
+              let found = tail_among w cut.0 inside in
+              let P : ℕ → Type 0 = λ u. In u (tails ends round.0) in
+              round.2 (tails_in ends w round.0 y (subst P found.2 (among_tails found.0 round.0 (cut.2 found.0 found.1))))
           | inr at_end ↦ let P : ℕ → Type 0 = λ u. In u (trail ends round.0 y) in round.2 (subst P (sym at_end) (end_in ends round.0 y))
-        ]
+        ];
       }
 
   pub in_block_at : HasNoLoop ends → (d e : ℕ) → d < 2 * length ends → e < 2 * length ends → tail_of ends e ≡ tail_of ends d

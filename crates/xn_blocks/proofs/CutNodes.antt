@@ -50,19 +50,22 @@ module _ (web : Graph) (keys : List ℕ) (names : NameBlocks web keys) (v : ℕ)
       let s_in : s < length web.ends = omega (arith, d.0) in
       let t_in : t < length web.ends = omega (arith, e.0) in
       record {
-        first = s; second = t; first_in = s_in; second_in = t_in;
+        first = s;
+        second = t;
+        first_in = s_in;
+        second_in = t_in;
         meets_first = subst (λ z. touches (ends_at web.ends s) z ≡ true) d.1 (touches_tail web.ends (at darts i));
         meets_second = subst (λ z. touches (ends_at web.ends t) z ≡ true) e.1 (touches_tail web.ends (at darts j));
-        two_blocks = λ one. other ((names.one_block s t s_in t_in).1 one)
+        two_blocks = λ one. other ((names.one_block s t s_in t_in).1 one);
       }
 
   -- all darts of one key
   pub no_cut : ((j : ℕ) → j < length darts → key j ≡ key 0) → IsCut web.ends v → ⊥
   no_cut same cut =
       let k : (s : ℕ) → s < length web.ends → touches (ends_at web.ends s) v ≡ true → at keys s ≡ key 0 = λ s s_in meets.
-            let d = dart_there web.ends s v s_in meets in
-            let place = darts_of-place web.ends v d.0 d.1 d.2 in
-            ap (at keys) (sym d.3 ∙ ap (λ z. z / 2) (sym place.2)) ∙ same place.0 place.1 in
+      let d = dart_there web.ends s v s_in meets in
+      let place = darts_of-place web.ends v d.0 d.1 d.2 in
+      ap (at keys) (sym d.3 ∙ ap (λ z. z / 2) (sym place.2)) ∙ same place.0 place.1 in
       cut.two_blocks ((names.one_block cut.first cut.second cut.first_in cut.second_in).0 (k cut.first cut.first_in cut.meets_first ∙ sym (k cut.second cut.second_in cut.meets_second)))
 
 -- ---- all numbers of which something is so
@@ -72,24 +75,24 @@ module _ (P : ℕ → Type 0) where
   lists_none list empty = record {
     rise = λ k k_in. absurd (omega (arith, k_in, ap length empty));
     within = λ v there. absurd (in_none v (subst (λ l. In v l) empty there));
-    exactly = λ v v_in. absurd (omega (arith, v_in))
+    exactly = λ v v_in. absurd (omega (arith, v_in));
   }
 
   pub lists_yes : (n : ℕ) (list : List ℕ) → ListsAll n P list → P n → ListsAll (n + 1) P (list ++ n ∷ [])
   lists_yes n list all holds =
       let old_or_new : (v : ℕ) → In v (list ++ n ∷ []) → In v list ⊎ (v ≡ n) = λ v there. elim (in_parts v list (n ∷ []) there) [
-            | inl front ↦ inl front
-            | inr back ↦ elim (in_cases v n [] back) [ | inl here ↦ inr here | inr none ↦ absurd (in_none v none) ]
-          ] in
+        | inl front ↦ inl front
+        | inr back ↦ elim (in_cases v n [] back) [ inl here ↦ inr here | inr none ↦ absurd (in_none v none) ]
+      ] in
       record {
         rise = rise_more list n all.rise all.within;
-        within = λ v there. elim (old_or_new v there) [ | inl old ↦ omega (arith, all.within v old) | inr new ↦ omega (arith, new) ];
+        within = λ v there. elim (old_or_new v there) [ inl old ↦ omega (arith, all.within v old) | inr new ↦ omega (arith, new) ];
         exactly = λ v v_in. elim (cases_eq v n) [
           | inl same ↦ ((λ there. subst P (sym same) holds), (λ so. in_back v list (n ∷ []) (in_here v n [] same)))
           | inr apart ↦
-            let old = all.exactly v (omega (arith, v_in, apart)) in
-            ((λ there. elim (old_or_new v there) [ | inl front ↦ old.0 front | inr new ↦ absurd (apart new) ]), (λ so. in_front v list (n ∷ []) (old.1 so)))
-        ]
+              let old = all.exactly v (omega (arith, v_in, apart)) in
+              ((λ there. elim (old_or_new v there) [ inl front ↦ old.0 front | inr new ↦ absurd (apart new) ]), (λ so. in_front v list (n ∷ []) (old.1 so)))
+        ];
       }
 
   pub lists_no : (n : ℕ) (list : List ℕ) → ListsAll n P list → (P n → ⊥) → ListsAll (n + 1) P list
@@ -99,5 +102,5 @@ module _ (P : ℕ → Type 0) where
     exactly = λ v v_in. elim (cases_eq v n) [
       | inl same ↦ ((λ there. absurd (omega (arith, all.within v there, same))), (λ so. absurd (fails (subst P same so))))
       | inr apart ↦ all.exactly v (omega (arith, v_in, apart))
-    ]
+    ];
   }

@@ -76,7 +76,7 @@ no_dart_loops ends no_loop d d_in same =
     elim c.1 [
       | inl even ↦ no_loop s (omega arith) (sym (tail-even ends s) ∙ ap (tail_of ends) (sym even) ∙ same ∙ ap (head ends) even ∙ ap (tail_of ends) (reverse-even s) ∙ tail-odd ends s)
       | inr odd ↦
-        no_loop s (omega arith) (sym (tail-even ends s) ∙ ap (tail_of ends) (sym (reverse-odd s)) ∙ ap (head ends) (sym odd) ∙ sym same ∙ ap (tail_of ends) odd ∙ tail-odd ends s)
+          no_loop s (omega arith) (sym (tail-even ends s) ∙ ap (tail_of ends) (sym (reverse-odd s)) ∙ ap (head ends) (sym odd) ∙ sym same ∙ ap (tail_of ends) odd ∙ tail-odd ends s)
     ]
 
 module _ (ends : List (ℕ × ℕ)) where
@@ -113,15 +113,19 @@ module _ (ends : List (ℕ × ℕ)) (no_loops : (d : ℕ) → d < 2 * length end
   pub round_of_cycle : (darts : List ℕ) → IsCycle ends darts → (d : ℕ) × (ds : List ℕ) × (darts ≡ d ∷ ds) × IsRound ends no_loops d ds
   round_of_cycle [] cycle = absurd (omega (arith, cycle.two))
   round_of_cycle (d ∷ ds) cycle =
-      let t = tail_of ends d in
-      (d, ds, refl, record {
-        d_in = cycle.closed.0;
-        path = record {
-          walks = cycle.closed.2;
-          distinct = trail_distinct ends ds t (IsDistinct-tail eqb _ _ cycle.nodes_once) (first_apart t (tails ends ds) cycle.nodes_once)
-        };
-        free = λ used. first_apart (d / 2) (segments_along ds) cycle.segments_once (halves_from_uses ends d ds used)
-      })
+      let t = tail_of ends d in (
+        d,
+        ds,
+        refl,
+        record {
+          d_in = cycle.closed.0;
+          path = record {
+            walks = cycle.closed.2;
+            distinct = trail_distinct ends ds t (IsDistinct-tail eqb _ _ cycle.nodes_once) (first_apart t (tails ends ds) cycle.nodes_once);
+          };
+          free = λ used. first_apart (d / 2) (segments_along ds) cycle.segments_once (halves_from_uses ends d ds used);
+        },
+      )
 
   pub cycle_of_round : (d : ℕ) (ds : List ℕ) → IsRound ends no_loops d ds → IsCycle ends (d ∷ ds)
   cycle_of_round d ds round =
@@ -130,7 +134,7 @@ module _ (ends : List (ℕ × ℕ)) (no_loops : (d : ℕ) → d < 2 * length end
         two = at_least_two ds round.path;
         closed = (round.d_in, refl, round.path.walks);
         segments_once = distinct_more (d / 2) (segments_along ds) (λ there. round.free (uses_from_halves ends d ds there)) (path_segments ends (head ends d) ds t round.path);
-        nodes_once = distinct_more t (tails ends ds) (end_apart ends ds t round.path.distinct) (tails_distinct ends ds t round.path.distinct)
+        nodes_once = distinct_more t (tails ends ds) (end_apart ends ds t round.path.distinct) (tails_distinct ends ds t round.path.distinct);
       }
     where
       at_least_two : (es : List ℕ) → IsPath ends (head ends d) es (tail_of ends d) → 2 ≤ length (d ∷ es)
@@ -145,9 +149,11 @@ module _ (ends : List (ℕ × ℕ)) (no_loops : (d : ℕ) → d < 2 * length end
       let P : List ℕ → Type 0 = λ zs. In (e / 2) (segments_along zs) in
       let Q : List ℕ → Type 0 = λ zs. In (f / 2) (segments_along zs) in
       record {
-        first = found.0; others = found.1; round = found.3;
+        first = found.0;
+        others = found.1;
+        round = found.3;
         has_one = uses_from_halves ends e (found.0 ∷ found.1) (subst P found.2 shared.2);
-        has_two = uses_from_halves ends f (found.0 ∷ found.1) (subst Q found.2 shared.3)
+        has_two = uses_from_halves ends f (found.0 ∷ found.1) (subst Q found.2 shared.3);
       }
 
   pub shared_of_round : (e f : ℕ) → OnRound ends no_loops e f → ShareCycle ends (e / 2) (f / 2)
@@ -160,9 +166,9 @@ module _ (ends : List (ℕ × ℕ)) (no_loops : (d : ℕ) → d < 2 * length end
   shared_join r s t one two =
       let half : (x : ℕ) → (2 * x) / 2 ≡ x = λ x. omega arith in
       let from : (x y : ℕ) → ShareCycle ends x y → OnRound ends no_loops (2 * x) (2 * y) = λ x y shared.
-            let P : ℕ → Type 0 = λ z. ShareCycle ends z y in
-            let Q : ℕ → Type 0 = λ z. ShareCycle ends ((2 * x) / 2) z in
-            round_of_shared (2 * x) (2 * y) (subst Q (sym (half y)) (subst P (sym (half x)) shared)) in
+      let P : ℕ → Type 0 = λ z. ShareCycle ends z y in
+      let Q : ℕ → Type 0 = λ z. ShareCycle ends ((2 * x) / 2) z in
+      round_of_shared (2 * x) (2 * y) (subst Q (sym (half y)) (subst P (sym (half x)) shared)) in
       let joined = shared_of_round (2 * r) (2 * t) (rounds_join ends no_loops (2 * r) (2 * s) (2 * t) (from r s one) (from s t two)) in
       let P : ℕ → Type 0 = λ z. ShareCycle ends z ((2 * t) / 2) in
       let Q : ℕ → Type 0 = λ z. ShareCycle ends r z in

@@ -3,6 +3,7 @@ pub mod Arcs
 pub mod Climbs
 pub mod CutNodes
 pub mod CycleRounds
+pub mod Gates
 pub mod Growing
 pub mod LowPoints
 pub mod Members
@@ -11,4 +12,6 @@ pub mod NodeClasses
 pub mod Parting
 pub mod Paths
 pub mod Rounds
+pub mod SearchSteps
+pub mod Searched
 pub mod Step

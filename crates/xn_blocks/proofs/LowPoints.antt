@@ -15,8 +15,10 @@ use Rattle.xn_blocks.specs.Growth.{IsFound, IsWhole, Lists}
 use Rattle.xn_blocks.specs.Lows.{AreAllClassed, AreClassed, AreHandedUp, AreLowPoints, AreNoted, GoesDownTo, HaveClasses, IsClassAt, IsSomeWhole, NameBlocks, lowered}
 use Rattle.xn_blocks.specs.Search.{Above, AreNodeClasses, IsSearchForest, PassesParent, later_end}
 use Rattle.xn_blocks.proofs.Climbs.{above_most}
-use Rattle.xn_blocks.proofs.Growing.{forest_from}
-use Rattle.xn_blocks.proofs.NodeClasses.{IsSearched, block_from_key, key_from_block}
+use Rattle.xn_blocks.proofs.SearchSteps.{forest_from}
+use Rattle.xn_blocks.proofs.Gates.{key_from_block}
+use Rattle.xn_blocks.proofs.NodeClasses.{block_from_key}
+use Rattle.xn_blocks.proofs.Searched.{IsSearched}
 
 -- ---- what a search gives
 
@@ -86,7 +88,7 @@ noted_more web s ends_in d x low d_in is noted =
       near = λ e low_e. elim (cases_eq e d) [
         | inl same ↦ omega (arith, ap (λ z. at new (tail_of web.ends z)) same, lowered_here low t x t_in, is, ap (λ z. at s.number (tail_of web.ends (reverse_of z))) same)
         | inr before ↦ omega (arith, lowered_less low t x t_in (tail_of web.ends e), noted.near e (omega (arith, low_e, before)))
-      ]
+      ];
     }
 
 pub handed_at_first : (s : Lists) → IsSomeWhole s → (low : List ℕ) → length low ≡ length s.parent → AreHandedUp s 0 low low
@@ -94,7 +96,7 @@ handed_at_first s (web, whole) low size = record {
   size = refl;
   less = λ v v_in. omega arith;
   from = λ v v_in. (v, v_in, (0, refl), refl);
-  handed = λ v v_in far. absurd (omega (arith, far, placed_in web s whole v (omega (arith, v_in, size, nodes_are web s whole))))
+  handed = λ v v_in far. absurd (omega (arith, far, placed_in web s whole v (omega (arith, v_in, size, nodes_are web s whole))));
 }
 
 -- the last k nodes, and one more
@@ -116,26 +118,26 @@ handed_more s (web, whole) k i old low size place handed =
       from = λ u u_in. elim (lowered_cases low p x p_in u) [
         | inl same ↦ let before = handed.from u u_in in (before.0, before.1, before.2, same ∙ before.3)
         | inr now ↦
-          let before = handed.from v (omega (arith, v_in, all)) in
-          let up : Above (at s.parent) u before.0 = subst (λ z. Above (at s.parent) z before.0) (sym now.0) (reaches_step (at s.parent) before.0 v before.2) in
-          (before.0, before.1, up, now.1 ∙ before.3)
+            let before = handed.from v (omega (arith, v_in, all)) in
+            let up : Above (at s.parent) u before.0 = subst (λ z. Above (at s.parent) z before.0) (sym now.0) (reaches_step (at s.parent) before.0 v before.2) in
+            (before.0, before.1, up, now.1 ∙ before.3)
       ];
       handed = λ u u_in low_u. elim (cases_eq u v) [
         | inl same ↦
-          let at_p : at new (at s.parent u) ≡ min (at low p) x = ap (λ z. at new (at s.parent z)) same ∙ lowered_here low p x p_in in
-          elim (lowered_cases low p x p_in u) [
-            | inl kept ↦ omega (arith, at_p, kept, ap (at low) same)
-            | inr root ↦ omega (arith, at_p, root.1)
-          ]
+            let at_p : at new (at s.parent u) ≡ min (at low p) x = ap (λ z. at new (at s.parent z)) same ∙ lowered_here low p x p_in in
+            elim (lowered_cases low p x p_in u) [
+              | inl kept ↦ omega (arith, at_p, kept, ap (at low) same)
+              | inr root ↦ omega (arith, at_p, root.1)
+            ]
         | inr other ↦
-          let u_n : u < n = omega (arith, u_in, all) in
-          let later : i < at s.number u = elim (cases_eq (at s.number u) i) [
-                | inl is ↦ absurd (other (one_place web s whole u i u_n (omega (arith, place)) is))
-                | inr apart ↦ omega (arith, low_u, place, apart)
-              ] in
-          let u_p : u ≢ p = λ same. omega (arith, later, ap (at s.number) same, parent_most web s whole v v_in, here.1) in
-          omega (arith, lowered_less low p x p_in (at s.parent u), handed.handed u u_in (omega (arith, later, place)), lowered_other low p x p_in u u_p)
-      ]
+            let u_n : u < n = omega (arith, u_in, all) in
+            let later : i < at s.number u = elim (cases_eq (at s.number u) i) [
+              | inl is ↦ absurd (other (one_place web s whole u i u_n (omega (arith, place)) is))
+              | inr apart ↦ omega (arith, low_u, place, apart)
+            ] in
+            let u_p : u ≢ p = λ same. omega (arith, later, ap (at s.number) same, parent_most web s whole v v_in, here.1) in
+            omega (arith, lowered_less low p x p_in (at s.parent u), handed.handed u u_in (omega (arith, later, place)), lowered_other low p x p_in u u_p)
+      ];
     }
 
 -- once all nodes have handed up
@@ -146,22 +148,23 @@ low_points web s ends_in whole old new noted handed =
     record {
       size = handed.size ∙ noted.size;
       met = λ v v_in.
-        let v_old : v < length old = omega (arith, v_in, noted.size) in
-        let from = handed.from v v_old in
-        let u_in : from.0 < web.nodes = omega (arith, from.1, noted.size) in
-        let most = above_most web (at s.parent) (at s.number) forest v from.0 u_in from.2 in
-        elim (noted.met from.0 u_in) [
-          | inl far ↦ inl (omega (arith, far, most, from.3))
-          | inr goes ↦ inr (record {
-            dart = goes.dart; inside = goes.inside;
-            below = reaches_trans (at s.parent) (tail_of web.ends goes.dart) from.0 v goes.below from.2;
-            low = omega (arith, goes.low, from.3)
-          })
-        ];
+          let v_old : v < length old = omega (arith, v_in, noted.size) in
+          let from = handed.from v v_old in
+          let u_in : from.0 < web.nodes = omega (arith, from.1, noted.size) in
+          let most = above_most web (at s.parent) (at s.number) forest v from.0 u_in from.2 in
+          elim (noted.met from.0 u_in) [
+            | inl far ↦ inl (omega (arith, far, most, from.3))
+            | inr goes ↦ inr (record {
+              dart = goes.dart;
+              inside = goes.inside;
+              below = reaches_trans (at s.parent) (tail_of web.ends goes.dart) from.0 v goes.below from.2;
+              low = omega (arith, goes.low, from.3);
+            })
+          ];
       least = λ v d v_in d_in up.
-        let t = tail_of web.ends d in
-        let t_in : t < web.nodes = tail_in web.nodes web.ends ends_in d d_in in
-        omega (arith, (falls up.0 t t_in).1, ap (at new) up.1, handed.less t (omega (arith, t_in, noted.size)), noted.near d d_in)
+          let t = tail_of web.ends d in
+          let t_in : t < web.nodes = tail_in web.nodes web.ends ends_in d d_in in
+          omega (arith, (falls up.0 t t_in).1, ap (at new) up.1, handed.less t (omega (arith, t_in, noted.size)), noted.near d d_in);
     }
   where
     falls : (j x : ℕ) → x < web.nodes → (iterate (at s.parent) j x < web.nodes) × (at new (iterate (at s.parent) j x) ≤ at new x)
@@ -185,18 +188,18 @@ classed_more s (web, whole) low class i k i_in classed is =
     let at_v : at new v ≡ k = get_or-set_same class v k 0 v_in in
     let other : (u : ℕ) → u ≢ v → at new u ≡ at class u = λ u ne. get_or-set_other class v u k 0 ne in
     let small : k < length s.parent = elim is [
-          | inl joined ↦ omega (arith, joined.2, classed.below (at s.parent v) (omega (arith, parent_in web s whole v here.0, n)))
-          | inr own ↦ omega (arith, own.1, here.0, n)
-        ] in
+      | inl joined ↦ omega (arith, joined.2, classed.below (at s.parent v) (omega (arith, parent_in web s whole v here.0, n)))
+      | inr own ↦ omega (arith, own.1, here.0, n)
+    ] in
     let keep : (u j : ℕ) → u < length s.parent → at s.number u ≤ i → IsClassAt s low class u j → IsClassAt s low new u j = λ u j u_in low_u old. elim old [
-          | inr own ↦ inr own
-          | inl joined ↦
-            let up = joined.0 in
-            let p = at s.parent u in
-            let u_n : u < web.nodes = omega (arith, u_in, n) in
-            let p_v : p ≢ v = λ same. omega (arith, whole.found.earlier u (whole.all u u_n) up, ap (at s.number) same, here.1, low_u) in
-            inl (up, joined.1, joined.2 ∙ sym (other p p_v))
-        ] in
+      | inr own ↦ inr own
+      | inl joined ↦
+          let up = joined.0 in
+          let p = at s.parent u in
+          let u_n : u < web.nodes = omega (arith, u_in, n) in
+          let p_v : p ≢ v = λ same. omega (arith, whole.found.earlier u (whole.all u u_n) up, ap (at s.number) same, here.1, low_u) in
+          inl (up, joined.1, joined.2 ∙ sym (other p p_v))
+    ] in
     record {
       size = length-set class v k ∙ classed.size;
       below = λ u u_in. elim (cases_eq u v) [
@@ -205,15 +208,15 @@ classed_more s (web, whole) low class i k i_in classed is =
       ];
       classed = λ u u_in low_u. elim (cases_eq u v) [
         | inl same ↦
-          let now = keep v k (omega (arith, here.0, n)) (omega (arith, here.1)) is in
-          subst (λ z. IsClassAt s low new z (at new z)) (sym same) (subst (λ j. IsClassAt s low new v j) (sym at_v) now)
+            let now = keep v k (omega (arith, here.0, n)) (omega (arith, here.1)) is in
+            subst (λ z. IsClassAt s low new z (at new z)) (sym same) (subst (λ j. IsClassAt s low new v j) (sym at_v) now)
         | inr ne ↦
-          let before : at s.number u < i = elim (cases_eq (at s.number u) i) [
-                | inl last ↦ absurd (ne (one_place web s whole u i (omega (arith, u_in, n)) i_in last))
-                | inr apart ↦ omega (arith, low_u, apart)
-              ] in
-          subst (λ j. IsClassAt s low new u j) (sym (other u ne)) (keep u (at class u) u_in (omega (arith, before)) (classed.classed u u_in before))
-      ]
+            let before : at s.number u < i = elim (cases_eq (at s.number u) i) [
+              | inl last ↦ absurd (ne (one_place web s whole u i (omega (arith, u_in, n)) i_in last))
+              | inr apart ↦ omega (arith, low_u, apart)
+            ] in
+            subst (λ j. IsClassAt s low new u j) (sym (other u ne)) (keep u (at class u) u_in (omega (arith, before)) (classed.classed u u_in before))
+      ];
     }
 
 pub classed_at_first : (s : Lists) → IsSomeWhole s → (low class : List ℕ) → class ≡ s.parent → AreClassed s low 0 class
@@ -222,7 +225,7 @@ classed_at_first s (web, whole) low class same =
     record {
       size = ap length same;
       below = λ v v_in. omega (arith, ap (λ l. at l v) same, parent_in web s whole v (omega (arith, v_in, n)), n);
-      classed = λ v v_in none. absurd (omega (arith, none))
+      classed = λ v v_in none. absurd (omega (arith, none));
     }
 
 later_cases : (number : ℕ → ℕ) (p : ℕ × ℕ) → (later_end number p ≡ p.0) ⊎ (later_end number p ≡ p.1)
@@ -239,32 +242,37 @@ keys_name web s ends_in no_loop whole low class keys lows classed have =
     let forest = forest_from web s ends_in whole.found whole.done whole.all in
     let is : (v : ℕ) → v < web.nodes → IsClassAt s low class v (at class v) = λ v v_in. classed.classed v (omega (arith, v_in, n)) (placed_in web s whole v v_in) in
     let classes : AreNodeClasses web (at s.parent) (at s.number) (at class) = record {
-          joined = λ v v_in up passes. elim (is v v_in) [
-            | inl joined ↦ joined.2
-            | inr own ↦ elim own.0 [
-              | inl root ↦ absurd (up root)
-              | inr far ↦ absurd (omega (arith, far, lows.least v passes.dart v_in passes.inside passes.below, passes.before))
-            ]
-          ];
-          cases = λ v v_in. elim (is v v_in) [
-            | inr own ↦ inl own.1
-            | inl joined ↦ inr (joined.0, (elim (lows.met v v_in) [
-              | inl far ↦ absurd (omega (arith, far, joined.1, parent_most web s whole v v_in))
-              | inr goes ↦ record { dart = goes.dart; inside = goes.inside; below = goes.below; before = omega (arith, goes.low, joined.1) }
-            ]), joined.2)
-          ]
-        } in
+      joined = λ v v_in up passes. elim (is v v_in) [
+        | inl joined ↦ joined.2
+        | inr own ↦ elim own.0 [
+          | inl root ↦ absurd (up root)
+          | inr far ↦ absurd (omega (arith, far, lows.least v passes.dart v_in passes.inside passes.below, passes.before))
+        ]
+      ];
+      cases = λ v v_in. elim (is v v_in) [
+        | inr own ↦ inl own.1
+        | inl joined ↦ inr (
+          joined.0,
+          (elim (lows.met v v_in) [
+            | inl far ↦ absurd (omega (arith, far, joined.1, parent_most web s whole v v_in))
+            | inr goes ↦ record { dart = goes.dart; inside = goes.inside; below = goes.below; before = omega (arith, goes.low, joined.1) }
+          ]),
+          joined.2,
+        )
+      ];
+    } in
     let known : IsSearched web (at s.parent) (at s.number) (at class) = record { ends_in = ends_in; no_loop = no_loop; forest = forest; classes = classes } in
     let later_in : (t : ℕ) → t < length web.ends → later_end (at s.number) (ends_at web.ends t) < web.nodes = λ t t_in.
-          let both = EndsIn-at web.nodes web.ends ends_in t t_in in
-          elim (later_cases (at s.number) (ends_at web.ends t)) [
-            | inl first ↦ omega (arith, first, both.0)
-            | inr second ↦ omega (arith, second, both.1)
-          ] in
+    let both = EndsIn-at web.nodes web.ends ends_in t t_in in
+    elim (later_cases (at s.number) (ends_at web.ends t)) [
+      | inl first ↦ omega (arith, first, both.0)
+      | inr second ↦ omega (arith, second, both.1)
+    ] in
     record {
       size = have.size;
       below = λ t t_in. omega (arith, have.key t t_in, classed.below (later_end (at s.number) (ends_at web.ends t)) (omega (arith, later_in t t_in, n)), n);
       one_block = λ t u t_in u_in. (
         (λ same. block_from_key web (at s.parent) (at s.number) (at class) known t u t_in u_in (sym (have.key t t_in) ∙ same ∙ have.key u u_in)),
-        (λ one. have.key t t_in ∙ key_from_block web (at s.parent) (at s.number) (at class) known t u one ∙ sym (have.key u u_in)))
+        (λ one. have.key t t_in ∙ key_from_block web (at s.parent) (at s.number) (at class) known t u one ∙ sym (have.key u u_in)),
+      );
     }

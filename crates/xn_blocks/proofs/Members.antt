@@ -28,6 +28,7 @@ decide_in x xs = elim (cases_Bool (has xs x)) [
   | inl there ↦ inl there
   | inr free ↦ inr (λ there. both_ways (has xs x) free there)
 ]
+
 pub in_front : (x : ℕ) (xs ys : List ℕ) → In x xs → In x (xs ++ ys)
 in_front x [] ys there = absurd (in_none x there)
 in_front x (y ∷ xs) ys there = elim (in_cases x y xs there) [
@@ -51,10 +52,13 @@ in_parts x (y ∷ xs) ys there = elim (in_cases x y (xs ++ ys) there) [
 
 differ_all : (x : ℕ) (ys : List ℕ) → (In x ys → ⊥) → AllByRecursion (λ y. eqb x y ≡ false) ys
 differ_all x [] none = tt
-differ_all x (y ∷ ys) none = (elim (cases_Bool (eqb x y)) [
-  | inl same ↦ absurd (none (in_here x y ys (eqb-true x y same)))
-  | inr other ↦ other
-], differ_all x ys (λ later. none (in_later x y ys later)))
+differ_all x (y ∷ ys) none = (
+  elim (cases_Bool (eqb x y)) [
+    | inl same ↦ absurd (none (in_here x y ys (eqb-true x y same)))
+    | inr other ↦ other
+  ],
+  differ_all x ys (λ later. none (in_later x y ys later)),
+)
 
 none_of_all : (x : ℕ) (ys : List ℕ) → AllByRecursion (λ y. eqb x y ≡ false) ys → In x ys → ⊥
 none_of_all x [] h there = in_none x there

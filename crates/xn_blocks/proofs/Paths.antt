@@ -27,8 +27,8 @@ path_from ends w [] v x path there = elim (in_cases x v [] there) [
 path_from ends w (e ∷ es) v x path there = elim (in_cases x (tail_of ends e) (trail ends es v) there) [
   | inl here ↦ (e ∷ es, record { walks = (path.walks.0, sym here, path.walks.2); distinct = path.distinct }, λ y among. among)
   | inr later ↦
-    let rest = path_from ends (tail_of ends (reverse_of e)) es v x (record { walks = path.walks.2; distinct = IsDistinct-tail eqb _ _ path.distinct }) later in
-    (rest.0, rest.1, λ y among. in_later y e es (rest.2 y among))
+      let rest = path_from ends (tail_of ends (reverse_of e)) es v x (record { walks = path.walks.2; distinct = IsDistinct-tail eqb _ _ path.distinct }) later in
+      (rest.0, rest.1, λ y among. in_later y e es (rest.2 y among))
 ]
 
 alone : (v : ℕ) → IsDistinct eqb (v ∷ [])
@@ -45,15 +45,18 @@ path_of ends u (d ∷ ds) v walk =
     let t = tail_of ends d in
     elim (decide_in t (trail ends es v)) [
       | inl met ↦
-        let cut = path_from ends head es v t rest.1 met in
-        let P : ℕ → Type 0 = λ x. IsPath ends x cut.0 v in
-        (cut.0, subst P walk.1 cut.1, λ y among. in_later y d ds (rest.2 y (cut.2 y among)))
-      | inr free ↦
-        (d ∷ es, record {
+          let cut = path_from ends head es v t rest.1 met in
+          let P : ℕ → Type 0 = λ x. IsPath ends x cut.0 v in
+          (cut.0, subst P walk.1 cut.1, λ y among. in_later y d ds (rest.2 y (cut.2 y among)))
+      | inr free ↦ (
+        d ∷ es,
+        record {
           walks = (walk.0, walk.1, rest.1.walks);
-          distinct = distinct_more t (trail ends es v) free rest.1.distinct
-        }, λ y among. elim (in_cases y d es among) [
+          distinct = distinct_more t (trail ends es v) free rest.1.distinct;
+        },
+        λ y among. elim (in_cases y d es among) [
           | inl here ↦ in_here y d ds here
           | inr later ↦ in_later y d ds (rest.2 y later)
-        ])
+        ],
+      )
     ]

@@ -26,7 +26,8 @@ block_at blocks i = list_at blocks.lists i
 abbrev pub StandsIn : List (List ℕ) → ℕ → ℕ → Type 0
 StandsIn lists i s = (i < length lists) × (has (list_at lists i) s ≡ true)
 
--- the numbers below n are parted into lists that aren't empty and rise, in the order of their least; two stand in one list exactly where they belong together
+-- the numbers below n are parted into lists that aren't empty and rise, in the order of their least;
+-- two stand in one list exactly where they belong together
 pub record IsPartition (n : ℕ) (Together : ℕ → ℕ → Type 0) (lists : List (List ℕ)) : Type 0 where
   pub some : (i : ℕ) → i < length lists → 0 < length (list_at lists i)
   pub rise : (i : ℕ) → i < length lists → IsStrictlyIncreasing (list_at lists i)

@@ -24,7 +24,8 @@ pub record AreNoted (web : Graph) (s : Lists) (n : ℕ) (low : List ℕ) : Type 
 pub record AreLowPoints (web : Graph) (s : Lists) (low : List ℕ) : Type 0 where
   pub size : length low ≡ web.nodes
   pub met : (v : ℕ) → v < web.nodes → (at s.number v ≤ at low v) ⊎ GoesDownTo web s v (at low v)
-  pub least : (v d : ℕ) → v < web.nodes → d < 2 * length web.ends → Above (at s.parent) v (tail_of web.ends d) → at low v ≤ at s.number (tail_of web.ends (reverse_of d))
+  pub least : (v d : ℕ) → v < web.nodes → d < 2 * length web.ends → Above (at s.parent) v (tail_of web.ends d)
+      → at low v ≤ at s.number (tail_of web.ends (reverse_of d))
 
 -- the search of some web has come to its end
 abbrev pub IsSomeWhole : Lists → Type 0

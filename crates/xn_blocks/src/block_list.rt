@@ -48,11 +48,11 @@ impl BlockList {
     }
 }
 
-/// The blocks of a web without loops: two segments stand in one block exactly where they are equal or lie on a common cycle, and
-/// two parallel segments are a cycle. The blocks rise, and stand in the order of their least segments.
+/// The blocks of a web without loops: two segments stand in one block exactly where they are equal or lie on a common
+/// cycle, and two parallel segments are a cycle. The blocks rise, and stand in the order of their least segments.
 ///
-/// It is the search in depth with low points of Hopcroft and Tarjan (1973), without recursion. Its time is linear. It fails only
-/// for want of memory.
+/// It is the search in depth with low points of Hopcroft and Tarjan (1973), without recursion. Its time is linear. It
+/// fails only for want of memory.
 pub fn blocks(alloc: Global, web: &Web) -> Result<BlockList, AllocError>
     requires { HasNoLoop web.now.ends }
     ensures { IfOk result (AreBlocks web.now) }

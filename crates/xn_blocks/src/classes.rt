@@ -10,7 +10,7 @@ use crate::forest::Forest;
 use std::alloc::{AllocError, Global};
 use xn_graph::{Stars, Web};
 
-/// Of each segment a node as its key: two segments have one key exactly where they are in one block. Its time is linear.
+/// Of each segment a node as its key: two segments have one key exactly where they are in one block. Linear in time.
 pub fn keys_of(alloc: Global, web: &Web, stars: &Stars) -> Result<Vec<u32>, AllocError>
     requires stars { stars.now ≡ web.now }
     requires no_loop { HasNoLoop web.now.ends }
@@ -121,7 +121,12 @@ fn class_at(forest: &Forest, low: &[u32], class: &[u32], v: u32) -> u32
 }
 
 // The class of each segment: that of its later end.
-fn segment_classes(alloc: Global, web: &Web, number: &[u32], class: &[u32]) -> Result<Vec<u32>, AllocError>
+fn segment_classes(
+    alloc: Global,
+    web: &Web,
+    number: &[u32],
+    class: &[u32],
+) -> Result<Vec<u32>, AllocError>
     requires numbers { length number.now ≡ web.now.nodes }
     requires classes { length class.now ≡ web.now.nodes }
     ensures { IfOk result (λ keys. HaveClasses web.now number.now class.now (length web.now.ends) keys.items) }
@@ -141,5 +146,9 @@ fn later_of(web: &Web, number: &[u32], s: u32) -> u32
     ensures node { result < web.now.nodes }
 {
     let (u, v) = web.end(s);
-    if number[u as usize] < number[v as usize] { v } else { u }
+    if number[u as usize] < number[v as usize] {
+        v
+    } else {
+        u
+    }
 }

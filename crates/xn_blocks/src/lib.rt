@@ -7,5 +7,7 @@ mod cuts;
 mod forest;
 pub mod laws;
 mod parts;
+#[cfg(test)]
+mod tests;
 
 pub use block_list::{BlockList, blocks};

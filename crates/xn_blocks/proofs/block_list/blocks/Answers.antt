@@ -16,5 +16,5 @@ returns c =
     let by_keys = subst (λ n. IsPartition n (HaveOneKey keys) lists) names.size by_slice in
     record {
       parts = partition_by (length web.ends) (HaveOneKey keys) (AreInOneBlock web.ends) lists names.one_block by_keys;
-      cuts = subst (λ g. ListsAll g.nodes (IsCut g.ends) c.in_ok-cuts.cuts.items) c.in_ok-stars.ensures c.in_ok-cuts.ensures
+      cuts = subst (λ g. ListsAll g.nodes (IsCut g.ends) c.in_ok-cuts.cuts.items) c.in_ok-stars.ensures c.in_ok-cuts.ensures;
     }

@@ -15,4 +15,4 @@ returns c =
     let lows = subst (λ l. AreLowPoints web s l) (sym c.as_slice.ensures.value) c.in_ok-low.ensures in
     let classed = subst (λ l. AreAllClassed s low l) (sym c.as_slice-3.ensures.value) c.in_ok-class.ensures in
     IfOk-weaker c.segment_classes.result _ _ (λ keys have. keys_name web s whole.ends_in c.requires.no_loop whole low class keys.items lows classed
-      (subst (λ l. HaveClasses web l class (length web.ends) keys.items) c.as_slice-2.ensures.value have)) c.segment_classes.ensures
+    (subst (λ l. HaveClasses web l class (length web.ends) keys.items) c.as_slice-2.ensures.value have)) c.segment_classes.ensures

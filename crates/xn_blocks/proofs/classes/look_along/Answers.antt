@@ -16,6 +16,6 @@ loop-d-preserved c =
     let x = c.index-number.result.now in
     let d_in : d < 2 * length web.ends = omega (arith, c.loop-d-test.true, c.segments-d-end.ensures.value) in
     let x_is : x ≡ at s.number (tail_of web.ends (reverse_of d)) =
-        get_or_read s.number c.tail.result _ (omega (arith, c.tail.ensures.node, c.requires.whole.found.numbers)) c.index-number.ensures 0 ∙ ap (at s.number) c.tail.ensures.value in
+    get_or_read s.number c.tail.result _ (omega (arith, c.tail.ensures.node, c.requires.whole.found.numbers)) c.index-number.ensures 0 ∙ ap (at s.number) c.tail.ensures.value in
     let is = c.lower.ensures ∙ ap (λ v. lowered low v x) c.tail-in-loop-d.ensures.value in
     subst (λ l. AreNoted web s (d + 1) l) (sym is) (noted_more web s c.requires.whole.ends_in d x low d_in x_is c.loop-d.invariant)

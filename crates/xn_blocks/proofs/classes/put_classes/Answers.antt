@@ -16,4 +16,4 @@ loop-i-preserved c =
     let i_in : i < length s.order = omega (arith, c.len-i-end.ensures, c.args.forest.now.order.ok.0, c.loop-i-test.true) in
     let v_is : c.index-v.result.now ≡ at s.order i = get_or_read s.order i _ i_in c.index-v.ensures 0 in
     subst (λ v. AreClassed s low (i + 1) (set class v k)) (sym v_is)
-      (classed_more s c.requires.whole low class i k i_in c.loop-i.invariant (subst (λ v. IsClassAt s low class v k) v_is c.class_at-own.ensures))
+    (classed_more s c.requires.whole low class i k i_in c.loop-i.invariant (subst (λ v. IsClassAt s low class v k) v_is c.class_at-own.ensures))

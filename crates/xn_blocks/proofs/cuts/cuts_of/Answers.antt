@@ -12,7 +12,7 @@ loop-v-preserved c =
     let list = c.loop-v.cuts.items in
     elim c.if-is_cut.branch [
       | then-is_cut+in_ok-push w ↦
-        rw (w.cuts-is, w.in_ok-push.ensures.items) (lists_yes (IsCut web.ends) v list c.loop-v.invariant (c.is_cut.ensures.0 w.if-is_cut.true))
+          rw (w.cuts-is, w.in_ok-push.ensures.items) (lists_yes (IsCut web.ends) v list c.loop-v.invariant (c.is_cut.ensures.0 w.if-is_cut.true))
       | else-is_cut w ↦
-        rw w.cuts-is (lists_no (IsCut web.ends) v list c.loop-v.invariant (λ cut. both_ways _ w.if-is_cut.false (c.is_cut.ensures.1 cut)))
+          rw w.cuts-is (lists_no (IsCut web.ends) v list c.loop-v.invariant (λ cut. both_ways _ w.if-is_cut.false (c.is_cut.ensures.1 cut)))
     ]

@@ -28,7 +28,7 @@ returns-then-key_of c =
     let at_i = ap (λ l. at keys (at l i / 2)) c.at-star.ensures in
     let at_0 = ap (λ l. at keys (at l 0 / 2)) c.at-star.ensures in
     let other : at keys (at (darts_of web.ends v) i / 2) ≡ at keys (at (darts_of web.ends v) 0 / 2) → ⊥ =
-        λ same. c.if-key_of.true (c.key_of.ensures ∙ at_i ∙ same ∙ sym at_0 ∙ sym c.key_of-in-loop-d.ensures) in
+    λ same. c.if-key_of.true (c.key_of.ensures ∙ at_i ∙ same ∙ sym at_0 ∙ sym c.key_of-in-loop-d.ensures) in
     ((λ _. cut_from web keys c.requires.names v i 0 i_in (omega (arith, i_in)) other), (λ _. refl))
 
 pub returns : goal.returns
@@ -37,7 +37,7 @@ returns c =
     let keys = c.args.keys.now in
     let v = c.args.v in
     let same : (j : ℕ) → j < length (darts_of web.ends v) → at keys (at (darts_of web.ends v) j / 2) ≡ at keys (at (darts_of web.ends v) 0 / 2) = λ j j_in.
-          let at_j = ap (λ l. at keys (at l j / 2)) c.at-star.ensures in
-          let at_0 = ap (λ l. at keys (at l 0 / 2)) c.at-star.ensures in
-          sym at_j ∙ c.loop-d.invariant j (omega (arith, j_in, c.loop-d-test.false, ap length c.at-star.ensures)) ∙ at_0 in
+    let at_j = ap (λ l. at keys (at l j / 2)) c.at-star.ensures in
+    let at_0 = ap (λ l. at keys (at l 0 / 2)) c.at-star.ensures in
+    sym at_j ∙ c.loop-d.invariant j (omega (arith, j_in, c.loop-d-test.false, ap length c.at-star.ensures)) ∙ at_0 in
     ((λ e. absurd (cc)), (λ cut. absurd (no_cut web keys c.requires.names v same cut)))

@@ -6,7 +6,7 @@ pub returns-clause-classes : goal.returns-clause-classes
 returns-clause-classes c = λ ends no_loop. record {
   reflexive = λ s. inl refl;
   symmetric = in_one_block_sym ends;
-  transitive = in_one_block_trans ends no_loop
+  transitive = in_one_block_trans ends no_loop;
 }
 
 pub returns-clause-part : goal.returns-clause-part

@@ -1,6 +1,7 @@
 use Rattle.std.proofs.Common.{inl, refl, sym, subst, arith}
 use Rattle.xn_blocks.specs.Growth.{Exploring, IsAt, KeepsWith, lists_in}
-use Rattle.xn_blocks.proofs.Growing.{at_root, explored, few, found_now, keeps_found}
+use Rattle.xn_blocks.proofs.Growing.{at_root, few, found_now, keeps_found}
+use Rattle.xn_blocks.proofs.SearchSteps.{explored}
 use Rattle.xn_blocks.proofs.forest.Forest.explore.Goals as goal
 
 pub find-requires-clause-few : goal.find-requires-clause-few
@@ -18,8 +19,9 @@ loop-place-init c =
       at_root web s found r r c.requires.node c.requires.new (inl refl) c.requires.done,
       record {
         keeps = keeps_found web s found r r c.requires.node c.requires.new (inl refl);
-        root_found = found_now web s found r r c.requires.node c.requires.new (inl refl)
-      })
+        root_found = found_now web s found r r c.requires.node c.requires.new (inl refl);
+      },
+    )
 
 pub loop-place-preserved : goal.loop-place-preserved
 loop-place-preserved c =
@@ -27,4 +29,4 @@ loop-place-preserved c =
     let s = lists_in c.args.self.now in
     let now = lists_in c.loop-place.self in
     explored web s now (lists_in c.go_on.new.self) c.args.root c.in-Some.v c.in_ok-place.place
-      (subst (λ o. Exploring web s now c.args.root o) c.in-Some.is c.loop-place.invariant) c.in_ok-place.ensures
+    (subst (λ o. Exploring web s now c.args.root o) c.in-Some.is c.loop-place.invariant) c.in_ok-place.ensures

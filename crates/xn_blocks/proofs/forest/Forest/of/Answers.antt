@@ -2,7 +2,7 @@ use Rattle.std.proofs.Common.{◌≡◌, ℕ, ◌+◌, ◌<◌, sym, subst, arit
 use Rattle.std.proofs.lemmas.List.{get_or_read}
 use Rattle.xn_model.specs.Lists.{at}
 use Rattle.xn_blocks.specs.Growth.{AllDone, AreFound, IsFound, IsOver, lists_in}
-use Rattle.xn_blocks.proofs.Growing.{all_and, found_at_first, none_found}
+use Rattle.xn_blocks.proofs.SearchSteps.{all_and, found_at_first, none_found}
 use Rattle.xn_blocks.proofs.forest.Forest.of.Goals.{then-index-nodes+in_ok-explore, else-index-nodes}
 use Rattle.xn_blocks.proofs.forest.Forest.of.Goals as goal
 
@@ -15,11 +15,11 @@ loop-root-preserved c =
     let root_in : root < web.nodes = omega (arith, c.loop-root-test.true, c.nodes-root-end.ensures.value) in
     elim c.if-index-nodes.branch [
       | then-index-nodes+in_ok-explore w ↦
-        let t = lists_in w.explore.new.self in
-        let ex = w.in_ok-explore.ensures in
-        rw w.forest-is (record { found = ex.over.found; done = ex.over.done; all = all_and web t root (λ v low. ex.over.keeps v (old.all v low)) ex.root_found })
+          let t = lists_in w.explore.new.self in
+          let ex = w.in_ok-explore.ensures in
+          rw w.forest-is (record { found = ex.over.found; done = ex.over.done; all = all_and web t root (λ v low. ex.over.keeps v (old.all v low)) ex.root_found })
       | else-index-nodes w ↦
-        let num : c.index.result.now ≡ at s.number root = get_or_read s.number root _ (omega (arith, root_in, old.found.numbers)) c.index.ensures 0 in
-        let here : IsFound web s root = (root_in, omega (arith, num, w.if-index-nodes.false, c.nodes.ensures.value)) in
-        rw w.forest-is (record { found = old.found; done = old.done; all = all_and web s root old.all here })
+          let num : c.index.result.now ≡ at s.number root = get_or_read s.number root _ (omega (arith, root_in, old.found.numbers)) c.index.ensures 0 in
+          let here : IsFound web s root = (root_in, omega (arith, num, w.if-index-nodes.false, c.nodes.ensures.value)) in
+          rw w.forest-is (record { found = old.found; done = old.done; all = all_and web s root old.all here })
     ]

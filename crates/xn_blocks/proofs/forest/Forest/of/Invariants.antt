@@ -6,5 +6,5 @@ abbrev pub invariant-loop-root : goal.invariant-loop-root
 invariant-loop-root l = record {
   found : AreFound l.web (lists_in l.forest);
   done : AllDone l.web (lists_in l.forest);
-  all : (v : ℕ) → v < l.root → IsFound l.web (lists_in l.forest) v
+  all : (v : ℕ) → v < l.root → IsFound l.web (lists_in l.forest) v;
 }

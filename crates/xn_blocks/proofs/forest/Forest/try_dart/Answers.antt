@@ -6,7 +6,8 @@ use Rattle.xn_model.proofs.Darts.{reverse_below}
 use Rattle.xn_graph.specs.Stars.{darts_of}
 use Rattle.xn_graph.proofs.DartsOf.{darts_of-at}
 use Rattle.xn_blocks.specs.Growth.{GoesOnAt, Lists, far_end, lists_in, with_dart, with_node}
-use Rattle.xn_blocks.proofs.Growing.{few, few_darts, goes_down, goes_past}
+use Rattle.xn_blocks.proofs.Growing.{few}
+use Rattle.xn_blocks.proofs.SearchSteps.{few_darts, goes_down, goes_past}
 use Rattle.xn_blocks.proofs.forest.Forest.try_dart.Goals as goal
 
 pub tail-w-requires : goal.tail-w-requires
