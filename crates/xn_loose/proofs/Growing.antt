@@ -10,7 +10,7 @@ use Rattle.xn_model.proofs.Darts.{reverse-even, reverse-odd}
 use Rattle.xn_model.proofs.Darts.{cases_dart}
 use Rattle.xn_surgery.specs.Subdivision.{dart_now}
 use Rattle.xn_genus.proofs.Compress.{tail_in}
-use Rattle.xn_track.specs.Relinking.{Leads}
+use Rattle.xn_track.specs.Relinking.{PassesTo}
 use Rattle.xn_loose.specs.Routes.{AreFaceNames, IsAcross, dart_back, dart_on}
 use Rattle.xn_track.proofs.Exchange.{move}
 use Rattle.xn_loose.proofs.Land.{At, Fine, Landing, Seam, also, also_here, also_other, also_parts, new_fine, old_fine, old_seam, own_seam}
@@ -279,7 +279,7 @@ module _ (g : Graph) (edges : List ℕ) (u : ℕ) (web : Graph) (next : ℕ → 
   abbrev New : ℕ → ℕ → Type 0
   New = Seam n web' after four' p' q'
 
-  from_leads : (x z : ℕ) → Leads n web' after four' x z → tail_of ends' x ≢ web.nodes → New x z
+  from_leads : (x z : ℕ) → PassesTo n web' after four' x z → tail_of ends' x ≢ web.nodes → New x z
   from_leads x z l far = record {
     x_in = l.x_in;
     z_in = l.y_in;

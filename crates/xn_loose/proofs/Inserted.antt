@@ -16,7 +16,7 @@ use Rattle.xn_genus.proofs.Kept.{EndsIn_at}
 use Rattle.xn_fewer.proofs.Has.{has-first, has-later}
 use Rattle.xn_fewer.proofs.Rising.{distinct-rising, has-all, rising-from_increasing}
 use Rattle.xn_loose.specs.Inserting.{EachMeetsOnce, EdgesComeIn, IsOneMore}
-use Rattle.xn_track.specs.Relinking.{Leads}
+use Rattle.xn_track.specs.Relinking.{PassesTo}
 use Rattle.xn_loose.specs.Routes.{AreFaceNames, IsWithin, RouteOf, dart_back, dart_on}
 use Rattle.xn_track.specs.Steps.{with_walk}
 use Rattle.xn_track.specs.Track.{GoesOn, IsGround, IsTrack, straight_on}
@@ -109,7 +109,7 @@ module _ (g : Graph) (edges all : List ℕ) (e : ℕ) (is_graph : IsGraph g) (li
     cursor = cursor_of g edges u web next four name whole y b q walks own st
 
     abbrev L : ℕ → ℕ → Type 0
-    L = Leads g.nodes web' after four'
+    L = PassesTo g.nodes web' after four'
 
     further' : (w : ℕ) → four' w ≡ true → (n ≤ w) × (w < web.nodes)
     further' w h = elim (also_parts four n (tail_of web.ends y) w h) [
@@ -396,7 +396,7 @@ come_in g edges all e web next four walks is_graph track more_edges e_low name f
           record {
             from = r.from;
             to = r.to;
-            path = path_map (length web.ends) (length web.ends) (Leads g.nodes web next four) (Seam g.nodes web next four y y) r.from r.to (walks x) refl r.path (λ i i_in l. record {
+            path = path_map (length web.ends) (length web.ends) (PassesTo g.nodes web next four) (Seam g.nodes web next four y y) r.from r.to (walks x) refl r.path (λ i i_in l. record {
               x_in = l.x_in;
               z_in = l.y_in;
               high = l.high;

@@ -5,7 +5,7 @@ use Rattle.xn_model.specs.Graph.{Graph}
 use Rattle.xn_model.specs.Lists.{one_if}
 use Rattle.xn_model.specs.Map.{IsMap, tail_of}
 use Rattle.xn_model.specs.Permutation.{count_below, iterate}
-use Rattle.xn_track.specs.Relinking.{Leads}
+use Rattle.xn_track.specs.Relinking.{PassesTo}
 use Rattle.xn_track.specs.Track.{straight_on}
 
 -- the map grows by a segment whose dart a stands before y
@@ -226,7 +226,7 @@ module _ (n : ℕ) (web : Graph) (next : ℕ → ℕ) (four : ℕ → Bool) (y b
   ]
 
   -- old passes are straight now
-  pub old_seam : (x z : ℕ) → Seam n web next four y q x z → Leads n more after four' (now x) (now z)
+  pub old_seam : (x z : ℕ) → Seam n web next four y q x z → PassesTo n more after four' (now x) (now z)
   old_seam x z s =
       let x_tail = land.tails x s.x_in in
       let z_tail = land.tails z s.z_in in
@@ -266,7 +266,7 @@ module _ (n : ℕ) (web : Graph) (next : ℕ → ℕ) (four : ℕ → Bool) (y b
       }
 
   -- and the new walk goes on by a
-  pub own_seam : At n web next y b q → Leads n more after four' (now b) a
+  pub own_seam : At n web next y b q → PassesTo n more after four' (now b) a
   own_seam at =
       let t = land.tails b at.b_in ∙ tail_b at in
       record {

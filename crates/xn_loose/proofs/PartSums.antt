@@ -13,8 +13,8 @@ use Rattle.xn_fewer.proofs.Has.{has-left, has-right}
 use Rattle.xn_fewer.proofs.Rising.{distinct-rising, rising-from_increasing}
 use Rattle.xn_track.specs.Track.{IsTrack, passed}
 use Rattle.xn_track.proofs.Loose.{loose_drawings_are_tracks}
-use Rattle.xn_loose.specs.Parts.{ArePartsOf, BoundsAddUp, PartsAddUp, all_passed, passed_twice}
-use Rattle.xn_loose.specs.Renaming.{graph_of}
+use Rattle.xn_loose.specs.Parts.{ArePartsOf, BoundsAddUp, CrossingsAddUp, all_passed, passed_twice}
+use Rattle.xn_loose.specs.Renaming.{subgraph_of}
 use Rattle.xn_loose.proofs.OneMore.{within_total}
 use Rattle.xn_loose.proofs.OnlyWalked.{at_most_two, count_of, none_low, parts_give_drawings}
 use Rattle.xn_loose.proofs.Renamed.{drawings_of_edges_are_drawings}
@@ -105,15 +105,15 @@ module _ (g : Graph) (all : List ℕ) (web : Graph) (next : ℕ → ℕ) (four :
       ap (λ n. total (λ part. count_below n (passed_twice part web.ends walks)) parts) e in
       omega (arith, rest, sum, most, two, same)
 
-pub parts_add_up : PartsAddUp
-parts_add_up g all further web next walks loose parts are =
+pub crossings_add_up : CrossingsAddUp
+crossings_add_up g all further web next walks loose parts are =
     let t = loose_drawings_are_tracks g all further web next walks loose in
     subst (λ n. total (λ part. count_below n (passed_twice part web.ends walks)) parts ≤ further) (sym loose.nodes)
     (high_sum g all web next t.0 walks loose.is_graph t.1 parts are further)
 
 -- each part's bound holds of the nodes that its walks pass twice
 bounds_below : (g : Graph) (all : List ℕ) (further : ℕ) (web : Graph) (next : ℕ → ℕ) (walks : ℕ → List ℕ) → IsLoose g all further web next walks → (low : List ℕ → ℕ) (parts : List (List ℕ)) →
-    All (IsEdgeList (length g.ends)) parts → ((e : ℕ) → has (flat_map (λ part. part) parts) e ≡ true → has all e ≡ true) → All (λ part. IsAtLeast (graph_of g part) (low part)) parts →
+    All (IsEdgeList (length g.ends)) parts → ((e : ℕ) → has (flat_map (λ part. part) parts) e ≡ true → has all e ≡ true) → All (λ part. IsAtLeast (subgraph_of g part) (low part)) parts →
     total low parts ≤ total (λ part. count_below web.nodes (passed_twice part web.ends walks)) parts
 bounds_below g all further web next walks loose low [] lists within bounds = omega arith
 bounds_below g all further web next walks loose low (part ∷ parts) lists within bounds =
@@ -130,6 +130,6 @@ bounds_add_up g parts low is_graph are bounds c d =
     let drawing = d.2 in
     let loose = drawings_are_loose g (edges_of g) d.0 d.1 is_graph (record { orders = drawing.orders; is_flat_map = drawing.is_flat_map; crosses = drawing.crosses }) in
     let below = bounds_below g (edges_of g) _ _ d.1 _ loose low parts are.edge_lists are.within bounds in
-    let most = parts_add_up g (edges_of g) _ _ d.1 _ loose parts are in
+    let most = crossings_add_up g (edges_of g) _ _ d.1 _ loose parts are in
     let count = d.3 in
     omega (arith, below, most, count)

@@ -18,8 +18,8 @@ use Rattle.xn_ring.proofs.Counting.{same_tests}
 use Rattle.xn_surgery.proofs.OverlayComponents.{EndsIn-both}
 use Rattle.xn_fewer.proofs.Has.{has-first, has-later, has-map}
 use Rattle.xn_fewer.proofs.Rising.{Rising, all_made, all_of, distinct-rising, rising-from_increasing}
-use Rattle.xn_loose.specs.Renaming.{DrawingsOfEdgesAreDrawings, graph_of, renumbered}
-use Rattle.xn_track.specs.Tidying.{IsDrawingOf}
+use Rattle.xn_loose.specs.Renaming.{DrawingsOfEdgesAreDrawings, subgraph_of, renumbered}
+use Rattle.xn_track.specs.Tidying.{IsDrawingOfEdges}
 use Rattle.xn_track.proofs.Places.{all_not, has-at, has-mapped, positions_apart}
 use Rattle.xn_loose.proofs.InWeb.{at-map, at_position}
 use Rattle.xn_track.proofs.RunsOfAll.{has-range, map-map}
@@ -104,12 +104,12 @@ rising_at (x ∷ xs) rises i zero low j_in = absurd (omega (arith, low))
 rising_at (x ∷ xs) rises zero (suc j) low j_in = all_of (λ y. x < y) xs rises.0 (at xs j) (has-at xs j (omega (arith, j_in)))
 rising_at (x ∷ xs) rises (suc i) (suc j) low j_in = rising_at xs rises.1 i j (omega (arith, low)) (omega (arith, j_in))
 
-module _ (g : Graph) (edges : List ℕ) (ord : ℕ → List ℕ) (next : ℕ → ℕ) (drawing : IsDrawingOf g edges ord next) where
+module _ (g : Graph) (edges : List ℕ) (ord : ℕ → List ℕ) (next : ℕ → ℕ) (drawing : IsDrawingOfEdges g edges ord next) where
   orders : IsOrders g.ends edges ord
   orders = drawing.orders
 
   abbrev h : Graph
-  h = graph_of g edges
+  h = subgraph_of g edges
 
   abbrev k : ℕ
   k = length h.ends

@@ -14,7 +14,7 @@ use Rattle.xn_genus.proofs.Kept.{EndsIn_at}
 use Rattle.xn_surgery.specs.Splitting.{IsSplit}
 use Rattle.xn_fewer.proofs.Has.{has-first, has-later}
 use Rattle.xn_fewer.proofs.Rising.{distinct-rising, has-all, rising-from_increasing}
-use Rattle.xn_track.specs.Relinking.{Leads}
+use Rattle.xn_track.specs.Relinking.{PassesTo}
 use Rattle.xn_track.specs.Tidying.{HasDrawingOf}
 use Rattle.xn_loose.specs.Touching.{IsMesh, MeshesGiveDrawings}
 use Rattle.xn_track.specs.Track.{IsGround, IsTrack, passed, straight_on}
@@ -35,7 +35,7 @@ pub record Meets (nodes : ℕ) (web : Graph) (next : ℕ → ℕ) (four : ℕ �
   pub one_node : tail_of web.ends y ≡ tail_of web.ends x
   pub how : (straight_on web.ends four next x ≡ y) ⊎ ((four (tail_of web.ends x) ≡ true) × ((next x ≡ y) ⊎ (next y ≡ x)))
 
-from_leads : (nodes : ℕ) (web : Graph) (next : ℕ → ℕ) (four : ℕ → Bool) (x y : ℕ) → Leads nodes web next four x y → Meets nodes web next four x y
+from_leads : (nodes : ℕ) (web : Graph) (next : ℕ → ℕ) (four : ℕ → Bool) (x y : ℕ) → PassesTo nodes web next four x y → Meets nodes web next four x y
 from_leads nodes web next four x y l = record { x_in = l.x_in; y_in = l.y_in; high = l.high; one_node = l.one_node; how = inl l.goes }
 
 -- darts of two positions
@@ -99,10 +99,10 @@ module _ (nodes : ℕ) (web : Graph) (next : ℕ → ℕ) (four : ℕ → Bool) 
       | inr far ↦ far_meets (reverse_of (at ds q)) (at ds (suc q)) m far
       | inl near ↦ from_leads nodes web' next' four' _ _ (elim (cases_eq q p) [
         | inl same ↦
-            let P : ℕ → Type 0 = λ k. Leads nodes web' next' four' (reverse_of (at ds k)) (at ds (suc k)) in
+            let P : ℕ → Type 0 = λ k. PassesTo nodes web' next' four' (reverse_of (at ds k)) (at ds (suc k)) in
             subst P (sym same) (elim here [
-              | inl is ↦ move (Leads nodes web' next' four') _ _ _ _ (sym is.0) (sym is.1) (a_to_b nodes web next four ground a a_in holds web'.ends next' split')
-              | inr is ↦ move (Leads nodes web' next' four') _ _ _ _ (sym is.0) (sym is.1) (b_to_a nodes web next four ground a a_in holds web'.ends next' split')
+              | inl is ↦ move (PassesTo nodes web' next' four') _ _ _ _ (sym is.0) (sym is.1) (a_to_b nodes web next four ground a a_in holds web'.ends next' split')
+              | inr is ↦ move (PassesTo nodes web' next' four') _ _ _ _ (sym is.0) (sym is.1) (b_to_a nodes web next four ground a a_in holds web'.ends next' split')
             ])
         | inr other ↦
             let z = reverse_of (at ds q) in
@@ -125,12 +125,12 @@ module _ (nodes : ℕ) (web : Graph) (next : ℕ → ℕ) (four : ℕ → Bool) 
                 | inl is ↦ absurd (w_a is)
                 | inr (inl is) ↦ absurd (w_b is)
                 | inr (inr (inl is)) ↦ absurd (zw (z_c ∙ sym is))
-                | inr (inr (inr is)) ↦ move (Leads nodes web' next' four') _ _ _ _ (sym z_c) (sym is) (c_to_d nodes web next four ground a a_in holds web'.ends next' split')
+                | inr (inr (inr is)) ↦ move (PassesTo nodes web' next' four') _ _ _ _ (sym z_c) (sym is) (c_to_d nodes web next four ground a a_in holds web'.ends next' split')
               ]
               | inr (inr (inr z_d)) ↦ elim (at_node nodes web next four ground a a_in holds w m.y_in (m.one_node ∙ near)) [
                 | inl is ↦ absurd (w_a is)
                 | inr (inl is) ↦ absurd (w_b is)
-                | inr (inr (inl is)) ↦ move (Leads nodes web' next' four') _ _ _ _ (sym z_d) (sym is) (d_to_c nodes web next four ground a a_in holds web'.ends next' split')
+                | inr (inr (inl is)) ↦ move (PassesTo nodes web' next' four') _ _ _ _ (sym z_d) (sym is) (d_to_c nodes web next four ground a a_in holds web'.ends next' split')
                 | inr (inr (inr is)) ↦ absurd (zw (z_d ∙ sym is))
               ]
             ]
@@ -288,7 +288,7 @@ module _ (g : Graph) (edges : List ℕ) (walks : ℕ → List ℕ) (is_graph : I
         let walk = λ (e : ℕ) (e_in : has edges e ≡ true).
         let p = rough.paths e e_in in
         from_path g.nodes web next four p.from p.to (walks e)
-        (path_map (length web.ends) (length web.ends) (Meets g.nodes web next four) (Leads g.nodes web next four) p.from p.to (walks e) refl p.path (λ k k_in m.
+        (path_map (length web.ends) (length web.ends) (Meets g.nodes web next four) (PassesTo g.nodes web next four) p.from p.to (walks e) refl p.path (λ k k_in m.
         record { x_in = m.x_in; y_in = m.y_in; high = m.high; one_node = m.one_node; goes = goes e e_in k (omega (arith, k_in)) k_in })) in
         record {
           edge_list = rough.edge_list;

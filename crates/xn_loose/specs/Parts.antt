@@ -7,7 +7,7 @@ use Rattle.xn_model.specs.Lists.{has, one_if, total}
 use Rattle.xn_model.specs.Loose.{IsLoose}
 use Rattle.xn_model.specs.Orders.{IsEdgeList}
 use Rattle.xn_model.specs.Permutation.{count_below}
-use Rattle.xn_loose.specs.Renaming.{graph_of}
+use Rattle.xn_loose.specs.Renaming.{subgraph_of}
 use Rattle.xn_track.specs.Tidying.{HasDrawingOf}
 use Rattle.xn_track.specs.Track.{IsTrack, passed}
 
@@ -40,8 +40,8 @@ pub record ArePartsOf (count : ℕ) (all : List ℕ) (parts : List (List ℕ)) :
   pub no_edge_twice : IsDistinct nat_eq (flat_map (λ part. part) parts)
 
 -- all parts together pass no more nodes twice than there are
-abbrev pub PartsAddUp : Type 0
-PartsAddUp =
+abbrev pub CrossingsAddUp : Type 0
+CrossingsAddUp =
     (g : Graph) (all : List ℕ) (further : ℕ) (web : Graph) (next : ℕ → ℕ) (walks : ℕ → List ℕ) → IsLoose g all further web next walks →
     (parts : List (List ℕ)) → ArePartsOf (length g.ends) all parts →
     total (λ part. count_below web.nodes (passed_twice part web.ends walks)) parts ≤ further
@@ -50,4 +50,4 @@ PartsAddUp =
 abbrev pub BoundsAddUp : Type 0
 BoundsAddUp =
     (g : Graph) (parts : List (List ℕ)) (low : List ℕ → ℕ) → IsGraph g → ArePartsOf (length g.ends) (edges_of g) parts →
-    All (λ part. IsAtLeast (graph_of g part) (low part)) parts → IsAtLeast g (total low parts)
+    All (λ part. IsAtLeast (subgraph_of g part) (low part)) parts → IsAtLeast g (total low parts)

@@ -6,7 +6,7 @@ use Rattle.xn_model.specs.Loose.{IsLoose}
 use Rattle.xn_model.specs.Map.{IsFlat}
 use Rattle.xn_model.specs.Orders.{IsOrders, crossing_count, crossings_of}
 use Rattle.xn_model.specs.Web.{first_segment, web_of}
-use Rattle.xn_track.specs.Tidying.{IsDrawingOf}
+use Rattle.xn_track.specs.Tidying.{IsDrawingOfEdges}
 use Rattle.xn_loose.specs.Touching.{IsMesh}
 
 -- the first darts of the segments s to s + more
@@ -33,7 +33,7 @@ TouchingOrdersGiveDrawings =
 -- a drawing is a loose drawing, whose further nodes are its crossings
 abbrev pub DrawingsAreLoose : Type 0
 DrawingsAreLoose =
-    (g : Graph) (edges : List ℕ) (ord : ℕ → List ℕ) (next : ℕ → ℕ) → IsGraph g → IsDrawingOf g edges ord next →
+    (g : Graph) (edges : List ℕ) (ord : ℕ → List ℕ) (next : ℕ → ℕ) → IsGraph g → IsDrawingOfEdges g edges ord next →
     IsLoose g edges (length (crossings_of edges ord)) (web_of g edges ord) next (walk_in_web edges ord)
 
 -- every loose drawing of all edges has at least k crossings

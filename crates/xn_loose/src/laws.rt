@@ -1,6 +1,6 @@
 //! Laws on loose drawings. Each is the contract of a function with an empty body.
 ghost use Rattle.xn_loose.specs.Inserting.{EdgesComeIn, EdgesComeIntoLooseDrawings, EdgesJoinComponents};
-ghost use Rattle.xn_loose.specs.Parts.{BoundsAddUp, PartsAddUp, PartsGiveDrawings, WalksGiveDrawings};
+ghost use Rattle.xn_loose.specs.Parts.{BoundsAddUp, CrossingsAddUp, PartsGiveDrawings, WalksGiveDrawings};
 ghost use Rattle.xn_loose.specs.Renaming.{DrawingsOfEdgesAreDrawings};
 ghost use Rattle.xn_loose.specs.Routes.{FacesHaveNames, StepsAcross, StepsWithin};
 ghost use Rattle.xn_loose.specs.Shortest.{EdgesComeInByLeastRoutes, LeastRoutesAreSimple, RouteLengthsAreThere, RoutesAreThere, RoutesBecomeSimple, SimpleRoutesAreRoutes};
@@ -55,6 +55,6 @@ pub fn renaming()
 pub fn parts()
     ensures walks { WalksGiveDrawings }
     ensures parts { PartsGiveDrawings }
-    ensures sum { PartsAddUp }
+    ensures sum { CrossingsAddUp }
     ensures bounds { BoundsAddUp }
 {}

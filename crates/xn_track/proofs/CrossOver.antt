@@ -4,7 +4,7 @@ use Rattle.xn_model.specs.Graph.{Graph}
 use Rattle.xn_model.specs.Lists.{at}
 use Rattle.xn_model.specs.Loose.{times_walked}
 use Rattle.xn_model.specs.Map.{reverse_of}
-use Rattle.xn_track.specs.Relinking.{IsRelinked, Leads, MayBeRelinked}
+use Rattle.xn_track.specs.Relinking.{IsRelinked, PassesTo, MayBeRelinked}
 use Rattle.xn_track.specs.Steps.{crossing_over, node_after}
 use Rattle.xn_track.specs.Track.{IsGround}
 use Rattle.xn_track.proofs.Exchange.{StandsIn, back_path, front_path, move, part_stays, stands_all, stands_first, stands_later, two_passes}
@@ -12,7 +12,7 @@ use Rattle.xn_track.proofs.Paths.{Path, path_append, times-append, times-take-dr
 use Rattle.xn_track.proofs.Seams.{TwoPasses, first_to_second, may, second_to_first}
 
 module _ (nodes : ℕ) (web : Graph) (next : ℕ → ℕ) (four : ℕ → Bool) (ground : IsGround nodes web next four) (from to from' to' : ℕ) (ds es rest : List ℕ)
-    (path : Path (length web.ends) (Leads nodes web next four) from ds to) (path' : Path (length web.ends) (Leads nodes web next four) from' es to')
+    (path : Path (length web.ends) (PassesTo nodes web next four) from ds to) (path' : Path (length web.ends) (PassesTo nodes web next four) from' es to')
     (once : (s : ℕ) → times_walked s ds + times_walked s es + times_walked s rest ≤ 1)
     (i j : ℕ) (i_in : suc i < length ds) (j_in : suc j < length es) (meet : node_after web.ends ds i ≡ node_after web.ends es j) where
   abbrev all : List ℕ
@@ -49,7 +49,7 @@ module _ (nodes : ℕ) (web : Graph) (next : ℕ → ℕ) (four : ℕ → Bool) 
     E' = length more.ends
 
     abbrev L' : ℕ → ℕ → Type 0
-    L' = Leads nodes more after fewer
+    L' = PassesTo nodes more after fewer
 
     is : IsRelinked nodes web next four (reverse_of (at all (0 + i))) (reverse_of (at all (n + 0 + j))) more after fewer
     is = move (λ a b. IsRelinked nodes web next four a b more after fewer) _ _ _ _ (ap reverse_of (sym at_i)) (ap reverse_of (sym at_j)) relinked
@@ -84,7 +84,7 @@ module _ (nodes : ℕ) (web : Graph) (next : ℕ → ℕ) (four : ℕ → Bool) 
         (second_to_first nodes web next four ground all (0 + i) (n + 0 + j) two more after fewer is) in
         path_append E' L' from' (reverse_of (at es j)) (at ds (suc i)) to (take (suc j) es) (drop (suc i) ds) front' seam back
 
-    pub cross_rest : (a z : ℕ) → Path (length web.ends) (Leads nodes web next four) a rest z → Path E' L' a rest z
+    pub cross_rest : (a z : ℕ) → Path (length web.ends) (PassesTo nodes web next four) a rest z → Path E' L' a rest z
     cross_rest a z way =
         part_stays nodes web next four ground all (0 + i) (n + 0 + j) two more after fewer is (n + (length es + 0)) rest stand_rest
         (λ k k_in. (λ same. omega (arith, same, i_in), λ same. omega (arith, same, j_in))) a z way

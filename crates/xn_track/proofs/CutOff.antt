@@ -4,7 +4,7 @@ use Rattle.xn_model.specs.Graph.{Graph}
 use Rattle.xn_model.specs.Lists.{at}
 use Rattle.xn_model.specs.Loose.{times_walked}
 use Rattle.xn_model.specs.Map.{reverse_of}
-use Rattle.xn_track.specs.Relinking.{IsRelinked, Leads, MayBeRelinked}
+use Rattle.xn_track.specs.Relinking.{IsRelinked, PassesTo, MayBeRelinked}
 use Rattle.xn_track.specs.Steps.{node_after}
 use Rattle.xn_track.specs.Track.{IsGround}
 use Rattle.xn_track.proofs.Exchange.{StandsIn, back_path, drop-twice, front_path, move, part_stays, stands_all, stands_first, stands_later, two_passes}
@@ -12,7 +12,7 @@ use Rattle.xn_track.proofs.Paths.{Path, path_append, times-append, times-take-dr
 use Rattle.xn_track.proofs.Seams.{TwoPasses, first_to_second, may}
 
 module _ (nodes : ℕ) (web : Graph) (next : ℕ → ℕ) (four : ℕ → Bool) (ground : IsGround nodes web next four) (from to : ℕ) (ds rest : List ℕ)
-    (path : Path (length web.ends) (Leads nodes web next four) from ds to) (once : (s : ℕ) → times_walked s ds + times_walked s rest ≤ 1)
+    (path : Path (length web.ends) (PassesTo nodes web next four) from ds to) (once : (s : ℕ) → times_walked s ds + times_walked s rest ≤ 1)
     (i j : ℕ) (low : i < j) (j_in : suc j < length ds) (meet : node_after web.ends ds i ≡ node_after web.ends ds j) where
   abbrev all : List ℕ
   all = ds ++ rest
@@ -43,19 +43,19 @@ module _ (nodes : ℕ) (web : Graph) (next : ℕ → ℕ) (four : ℕ → Bool) 
     is : IsRelinked nodes web next four (reverse_of (at all (0 + i))) (reverse_of (at all (0 + j))) more after fewer
     is = move (λ a b. IsRelinked nodes web next four a b more after fewer) _ _ _ _ (ap reverse_of (sym at_i)) (ap reverse_of (sym at_j)) relinked
 
-    pub cut_path : Path (length more.ends) (Leads nodes more after fewer) from (take (suc i) ds ++ drop (suc j) ds) to
+    pub cut_path : Path (length more.ends) (PassesTo nodes more after fewer) from (take (suc i) ds ++ drop (suc j) ds) to
     cut_path =
         let front = front_path nodes web next four ground from to ds path all 0 stand (0 + i) (0 + j) two more after fewer is i i_in
         (λ k k_in. (λ same. omega (arith, same, k_in), λ same. omega (arith, same, k_in, low))) in
         let back = back_path nodes web next four ground from to ds path all 0 stand (0 + i) (0 + j) two more after fewer is j j_in
         (λ k k_low k_in. (λ same. omega (arith, same, k_low, low), λ same. omega (arith, same, k_low))) in
         let on : suc (0 + j) ≡ 0 + suc j = omega arith in
-        let seam = move (Leads nodes more after fewer) _ _ _ _ (ap reverse_of at_i) (ap (at all) on ∙ here (suc j) j_in)
+        let seam = move (PassesTo nodes more after fewer) _ _ _ _ (ap reverse_of at_i) (ap (at all) on ∙ here (suc j) j_in)
         (first_to_second nodes web next four ground all (0 + i) (0 + j) two more after fewer is) in
-        path_append (length more.ends) (Leads nodes more after fewer) from (reverse_of (at ds i)) (at ds (suc j)) to (take (suc i) ds) (drop (suc j) ds) front seam back
+        path_append (length more.ends) (PassesTo nodes more after fewer) from (reverse_of (at ds i)) (at ds (suc j)) to (take (suc i) ds) (drop (suc j) ds) front seam back
 
     -- another walk stays
-    pub cut_rest : (a z : ℕ) → Path (length web.ends) (Leads nodes web next four) a rest z → Path (length more.ends) (Leads nodes more after fewer) a rest z
+    pub cut_rest : (a z : ℕ) → Path (length web.ends) (PassesTo nodes web next four) a rest z → Path (length more.ends) (PassesTo nodes more after fewer) a rest z
     cut_rest a z way =
         let s = stands_later ds rest rest 0 (stands_all rest) in
         part_stays nodes web next four ground all (0 + i) (0 + j) two more after fewer is (length ds + 0) rest s

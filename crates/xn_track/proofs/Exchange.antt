@@ -5,7 +5,7 @@ use Rattle.xn_model.specs.Graph.{Graph}
 use Rattle.xn_model.specs.Lists.{at}
 use Rattle.xn_model.specs.Loose.{times_walked}
 use Rattle.xn_model.specs.Map.{reverse_of, tail_of}
-use Rattle.xn_track.specs.Relinking.{IsRelinked, Leads}
+use Rattle.xn_track.specs.Relinking.{IsRelinked, PassesTo}
 use Rattle.xn_track.specs.Steps.{node_after}
 use Rattle.xn_track.specs.Track.{IsGround}
 use Rattle.xn_track.proofs.Blocks.{at_after}
@@ -79,22 +79,22 @@ module _ (nodes : ℕ) (web : Graph) (next : ℕ → ℕ) (four : ℕ → Bool) 
   E = length web.ends
 
   abbrev L : ℕ → ℕ → Type 0
-  L = Leads nodes web next four
+  L = PassesTo nodes web next four
 
   -- a part of the walks in which the two passes don't stand stays a path
   pub part_stays : (all : List ℕ) (p q : ℕ) (two : TwoPasses nodes web next four all p q) (more : Graph) (after : ℕ → ℕ) (fewer : ℕ → Bool) →
       IsRelinked nodes web next four (reverse_of (at all p)) (reverse_of (at all q)) more after fewer →
       (o : ℕ) (ds : List ℕ) → StandsIn all o ds → ((k : ℕ) → suc k < length ds → (o + k ≢ p) × (o + k ≢ q)) → (a z : ℕ) → Path E L a ds z →
-      Path (length more.ends) (Leads nodes more after fewer) a ds z
+      Path (length more.ends) (PassesTo nodes more after fewer) a ds z
   part_stays all p q two more after fewer is o ds s avoid a z path =
-      path_map E (length more.ends) L (Leads nodes more after fewer) a z ds is.split.all path (λ k k_in l.
+      path_map E (length more.ends) L (PassesTo nodes more after fewer) a z ds is.split.all path (λ k k_in l.
       let here = s.same k (omega (arith, k_in)) in
       let on : o + suc k ≡ suc (o + k) = omega arith in
       let there : at all (suc (o + k)) ≡ at ds (suc k) = ap (at all) (sym on) ∙ s.same (suc k) k_in in
       let old : L (reverse_of (at all (o + k))) (at all (suc (o + k))) = move L _ _ _ _ (ap reverse_of (sym here)) (sym there) l in
       let low = s.fits in
       let both = avoid k k_in in
-      move (Leads nodes more after fewer) _ _ _ _ (ap reverse_of here) there
+      move (PassesTo nodes more after fewer) _ _ _ _ (ap reverse_of here) there
       (stays nodes web next four ground all p q two more after fewer is (o + k) (omega (arith, k_in, low)) both.0 both.1 old))
 
   -- a pass of a walk that stands there
@@ -126,7 +126,7 @@ module _ (nodes : ℕ) (web : Graph) (next : ℕ → ℕ) (four : ℕ → Bool) 
   pub front_path : (from to : ℕ) (ds : List ℕ) → Path E L from ds to → (all : List ℕ) (o : ℕ) → StandsIn all o ds → (p q : ℕ) → TwoPasses nodes web next four all p q →
       (more : Graph) (after : ℕ → ℕ) (fewer : ℕ → Bool) → IsRelinked nodes web next four (reverse_of (at all p)) (reverse_of (at all q)) more after fewer →
       (i : ℕ) → suc i < length ds → ((k : ℕ) → k < i → (o + k ≢ p) × (o + k ≢ q)) →
-      Path (length more.ends) (Leads nodes more after fewer) from (take (suc i) ds) (reverse_of (at ds i))
+      Path (length more.ends) (PassesTo nodes more after fewer) from (take (suc i) ds) (reverse_of (at ds i))
   front_path from to ds path all o s p q two more after fewer is i i_in avoid =
       let size = take-size (suc i) ds (omega (arith, i_in)) in
       part_stays all p q two more after fewer is o (take (suc i) ds) (stands_take all o ds (suc i) (omega (arith, i_in)) s)
@@ -135,7 +135,7 @@ module _ (nodes : ℕ) (web : Graph) (next : ℕ → ℕ) (four : ℕ → Bool) 
   pub back_path : (from to : ℕ) (ds : List ℕ) → Path E L from ds to → (all : List ℕ) (o : ℕ) → StandsIn all o ds → (p q : ℕ) → TwoPasses nodes web next four all p q →
       (more : Graph) (after : ℕ → ℕ) (fewer : ℕ → Bool) → IsRelinked nodes web next four (reverse_of (at all p)) (reverse_of (at all q)) more after fewer →
       (i : ℕ) → suc i < length ds → ((k : ℕ) → i < k → suc k < length ds → (o + k ≢ p) × (o + k ≢ q)) →
-      Path (length more.ends) (Leads nodes more after fewer) (at ds (suc i)) (drop (suc i) ds) to
+      Path (length more.ends) (PassesTo nodes more after fewer) (at ds (suc i)) (drop (suc i) ds) to
   back_path from to ds path all o s p q two more after fewer is i i_in avoid =
       let size = length-drop (suc i) ds in
       part_stays all p q two more after fewer is (o + suc i) (drop (suc i) ds) (stands_drop all o ds (suc i) (omega (arith, i_in)) s)

@@ -7,7 +7,7 @@ use Rattle.xn_model.specs.Loose.{times_walked}
 use Rattle.xn_model.specs.Map.{WalksTo, reverse_of, tail_of}
 use Rattle.xn_model.proofs.Darts.{reverse-reverse, reverse_below}
 use Rattle.xn_genus.proofs.Compress.{half_reverse}
-use Rattle.xn_track.specs.Relinking.{Leads}
+use Rattle.xn_track.specs.Relinking.{PassesTo}
 use Rattle.xn_track.specs.Steps.{reverse_walk, turned_walk}
 use Rattle.xn_track.specs.Track.{GoesOn, straight_on}
 
@@ -114,12 +114,12 @@ times-take-drop s (suc i) (d ∷ ds) = let rest = times-take-drop s i ds in omeg
 -- ---- and the walks of the definitions
 
 pub to_path : (nodes : ℕ) (web : Graph) (next : ℕ → ℕ) (four : ℕ → Bool) (u v : ℕ) (ds : List ℕ) → WalksTo web.ends u ds v → GoesOn nodes web.ends (straight_on web.ends four next) ds →
-    0 < length ds → (z : ℕ) × Path (length web.ends) (Leads nodes web next four) (at ds 0) ds z × (tail_of web.ends (at ds 0) ≡ u) × (tail_of web.ends z ≡ v)
+    0 < length ds → (z : ℕ) × Path (length web.ends) (PassesTo nodes web next four) (at ds 0) ds z × (tail_of web.ends (at ds 0) ≡ u) × (tail_of web.ends z ≡ v)
 to_path nodes web next four u v [] walk goes some = absurd (omega arith)
 to_path nodes web next four u v (d ∷ []) walk goes some = (reverse_of d, (walk.0, refl, refl), walk.1, walk.2)
 to_path nodes web next four u v (d ∷ e ∷ ds) walk goes some =
     let rest = to_path nodes web next four (tail_of web.ends (reverse_of d)) v (e ∷ ds) walk.2 goes.2 (omega arith) in
-    let seam : Leads nodes web next four (reverse_of d) e = record {
+    let seam : PassesTo nodes web next four (reverse_of d) e = record {
       x_in = reverse_below (length web.ends) d walk.0;
       y_in = walk.2.0;
       high = omega (arith, goes.0, rest.2);
@@ -128,7 +128,7 @@ to_path nodes web next four u v (d ∷ e ∷ ds) walk goes some =
     } in
     (rest.0, (walk.0, refl, seam, rest.1), walk.1, rest.3)
 
-pub from_path : (nodes : ℕ) (web : Graph) (next : ℕ → ℕ) (four : ℕ → Bool) (a z : ℕ) (ds : List ℕ) → Path (length web.ends) (Leads nodes web next four) a ds z →
+pub from_path : (nodes : ℕ) (web : Graph) (next : ℕ → ℕ) (four : ℕ → Bool) (a z : ℕ) (ds : List ℕ) → Path (length web.ends) (PassesTo nodes web next four) a ds z →
     WalksTo web.ends (tail_of web.ends a) ds (tail_of web.ends z) × GoesOn nodes web.ends (straight_on web.ends four next) ds
 from_path nodes web next four a z [] p = absurd p
 from_path nodes web next four a z (d ∷ []) p = ((p.0, ap (tail_of web.ends) p.1, ap (tail_of web.ends) p.2), tt)

@@ -13,7 +13,7 @@ use Rattle.xn_model.proofs.Darts.{cases_dart, tail-even, tail-odd}
 use Rattle.xn_ring.proofs.Counting.{count-differs}
 use Rattle.xn_surgery.specs.Splitting.{InArc, IsSplit}
 use Rattle.xn_surgery.proofs.Split.{flat_split, map_split}
-use Rattle.xn_track.specs.Relinking.{ComesApartAt, EverySplitRelinks, IsRelinked, Leads, MayBeRelinked, PassesCanBeRelinked}
+use Rattle.xn_track.specs.Relinking.{ComesApartAt, EverySplitRelinks, IsRelinked, PassesTo, MayBeRelinked, PassesCanBeRelinked}
 use Rattle.xn_track.specs.Track.{IsGround}
 
 -- ---- segments by the tails of their darts
@@ -40,7 +40,7 @@ ends_by-tail t count d d_in =
     ]
 
 -- what leads there leads back
-pub leads_back : (nodes : ℕ) (web : Graph) (next : ℕ → ℕ) (four : ℕ → Bool) → IsGround nodes web next four → (x y : ℕ) → Leads nodes web next four x y → Leads nodes web next four y x
+pub leads_back : (nodes : ℕ) (web : Graph) (next : ℕ → ℕ) (four : ℕ → Bool) → IsGround nodes web next four → (x y : ℕ) → PassesTo nodes web next four x y → PassesTo nodes web next four y x
 leads_back nodes web next four ground x y l = record {
   x_in = l.y_in;
   y_in = l.x_in;
@@ -318,7 +318,7 @@ module _ (nodes : ℕ) (web : Graph) (next : ℕ → ℕ) (four : ℕ → Bool) 
     pub tail_c : tail_of more.ends c ≡ v
     tail_c = tail_old c c_in ca cb ∙ at_c
 
-    pub a_to_b : Leads nodes more after fewer a b
+    pub a_to_b : PassesTo nodes more after fewer a b
     a_to_b = record {
       x_in = omega (arith, a_in, all);
       y_in = omega (arith, b_in, all);
@@ -327,7 +327,7 @@ module _ (nodes : ℕ) (web : Graph) (next : ℕ → ℕ) (four : ℕ → Bool) 
       goes = cond-false _ _ _ (ap fewer tail_a ∙ fewer_last) ∙ after_a;
     }
 
-    pub c_to_d : Leads nodes more after fewer c d
+    pub c_to_d : PassesTo nodes more after fewer c d
     c_to_d = record {
       x_in = omega (arith, c_in, all);
       y_in = omega (arith, d_in, all);
@@ -336,13 +336,13 @@ module _ (nodes : ℕ) (web : Graph) (next : ℕ → ℕ) (four : ℕ → Bool) 
       goes = cond-false _ _ _ (ap fewer tail_c ∙ fewer_here) ∙ after_c;
     }
 
-    pub b_to_a : Leads nodes more after fewer b a
+    pub b_to_a : PassesTo nodes more after fewer b a
     b_to_a = leads_back nodes more after fewer new_ground a b a_to_b
 
-    pub d_to_c : Leads nodes more after fewer d c
+    pub d_to_c : PassesTo nodes more after fewer d c
     d_to_c = leads_back nodes more after fewer new_ground c d c_to_d
 
-    pub others : (x y : ℕ) → Leads nodes web next four x y → tail_of web.ends x ≢ v → Leads nodes more after fewer x y
+    pub others : (x y : ℕ) → PassesTo nodes web next four x y → tail_of web.ends x ≢ v → PassesTo nodes more after fewer x y
     others x y l far =
         let x_tail = tail_far x l.x_in far in
         let y_tail = tail_far y l.y_in (λ same. far (sym l.one_node ∙ same)) in
@@ -363,7 +363,7 @@ pub every_split_relinks : EverySplitRelinks
 every_split_relinks nodes web next four ground a b may x (inl here) ends after split =
     let holds = may.holds in
     let it : IsSplit web.nodes web.ends next a (next (next a)) ends after = subst (λ k. IsSplit web.nodes web.ends next k (next (next k)) ends after) here.0 split in
-    let L = Leads nodes (record { nodes = suc web.nodes; ends = ends }) after (fewer nodes web next four ground a may.a_in holds) in
+    let L = PassesTo nodes (record { nodes = suc web.nodes; ends = ends }) after (fewer nodes web next four ground a may.a_in holds) in
     let b_is : b ≡ next (next (next a)) = before nodes web next four ground a may.a_in holds b may.b_in here.1 in
     -- b is the third after a: it leads to a as a does to the dart between
     record {
@@ -393,8 +393,8 @@ every_split_relinks nodes web next four ground a b may x (inr here) ends after s
       one_more = refl;
       but_this = λ v. ap (λ z. four v && not (eqb v z)) (sym one_node);
       ground = new_ground nodes web next four ground b may.b_in holds ends after it;
-      from_a = subst (λ z. Leads nodes more after fewest z (next (next b))) (sym a_is) (d_to_c nodes web next four ground b may.b_in holds ends after it);
-      from_b = subst (λ z. Leads nodes more after fewest b z) (sym (ap next here.1)) (a_to_b nodes web next four ground b may.b_in holds ends after it);
+      from_a = subst (λ z. PassesTo nodes more after fewest z (next (next b))) (sym a_is) (d_to_c nodes web next four ground b may.b_in holds ends after it);
+      from_b = subst (λ z. PassesTo nodes more after fewest b z) (sym (ap next here.1)) (a_to_b nodes web next four ground b may.b_in holds ends after it);
       others = λ c d l far. others nodes web next four ground b may.b_in holds ends after it c d l (λ same. far (same ∙ sym one_node));
       tails = λ d d_in far. tail_far nodes web next four ground b may.b_in holds ends after it d d_in (λ same. far (same ∙ sym one_node));
       count = fewer_count nodes web next four ground b may.b_in holds;

@@ -7,7 +7,7 @@ use Rattle.xn_model.specs.Map.{reverse_of, tail_of}
 use Rattle.xn_model.specs.Permutation.{iterate}
 use Rattle.xn_model.proofs.Darts.{cases_dart, reverse-even, reverse-odd, reverse_apart}
 use Rattle.xn_genus.proofs.Compress.{half_reverse}
-use Rattle.xn_track.specs.Relinking.{IsRelinked, Leads, MayBeRelinked}
+use Rattle.xn_track.specs.Relinking.{IsRelinked, PassesTo, MayBeRelinked}
 use Rattle.xn_track.specs.Track.{IsGround}
 use Rattle.xn_track.proofs.Relink.{at_node}
 
@@ -23,8 +23,8 @@ pub record TwoPasses (nodes : ℕ) (web : Graph) (next : ℕ → ℕ) (four : �
   pub p_in : suc p < length ds
   pub q_in : suc q < length ds
   pub differ : p ≢ q
-  pub first : Leads nodes web next four (reverse_of (at ds p)) (at ds (suc p))
-  pub second : Leads nodes web next four (reverse_of (at ds q)) (at ds (suc q))
+  pub first : PassesTo nodes web next four (reverse_of (at ds p)) (at ds (suc p))
+  pub second : PassesTo nodes web next four (reverse_of (at ds q)) (at ds (suc q))
   pub one_node : tail_of web.ends (at ds (suc p)) ≡ tail_of web.ends (at ds (suc q))
 
 module _ (nodes : ℕ) (web : Graph) (next : ℕ → ℕ) (four : ℕ → Bool) (ground : IsGround nodes web next four) (ds : List ℕ) (p q : ℕ)
@@ -88,7 +88,7 @@ module _ (nodes : ℕ) (web : Graph) (next : ℕ → ℕ) (four : ℕ → Bool) 
   may = record { a_in = two.first.x_in; b_in = two.second.x_in; one_node = at_b; holds = crossed; differ = not_ab; other = λ same. not_a'b (sym a_on ∙ same) }
 
   -- another pass is elsewhere
-  pub elsewhere : (i : ℕ) → suc i < length ds → i ≢ p → i ≢ q → Leads nodes web next four (reverse_of (at ds i)) (at ds (suc i)) → tail_of web.ends (reverse_of (at ds i)) ≢ tail_of web.ends a
+  pub elsewhere : (i : ℕ) → suc i < length ds → i ≢ p → i ≢ q → PassesTo nodes web next four (reverse_of (at ds i)) (at ds (suc i)) → tail_of web.ends (reverse_of (at ds i)) ≢ tail_of web.ends a
   elsewhere i i_in not_p not_q l at_v =
       let i_low : i < length ds = omega (arith, i_in) in
       let x = reverse_of (at ds i) in
@@ -120,12 +120,12 @@ module _ (nodes : ℕ) (web : Graph) (next : ℕ → ℕ) (four : ℕ → Bool) 
 
   -- once relinked, the passes have changed their ends, and the others stay
   module _ (more : Graph) (after : ℕ → ℕ) (fewer : ℕ → Bool) (is : IsRelinked nodes web next four a b more after fewer) where
-    pub first_to_second : Leads nodes more after fewer a b'
-    first_to_second = let P : ℕ → Type 0 = λ z. Leads nodes more after fewer a z in subst P b_on is.from_a
+    pub first_to_second : PassesTo nodes more after fewer a b'
+    first_to_second = let P : ℕ → Type 0 = λ z. PassesTo nodes more after fewer a z in subst P b_on is.from_a
 
-    pub second_to_first : Leads nodes more after fewer b a'
-    second_to_first = let P : ℕ → Type 0 = λ z. Leads nodes more after fewer b z in subst P a_on is.from_b
+    pub second_to_first : PassesTo nodes more after fewer b a'
+    second_to_first = let P : ℕ → Type 0 = λ z. PassesTo nodes more after fewer b z in subst P a_on is.from_b
 
-    pub stays : (i : ℕ) → suc i < length ds → i ≢ p → i ≢ q → Leads nodes web next four (reverse_of (at ds i)) (at ds (suc i)) →
-        Leads nodes more after fewer (reverse_of (at ds i)) (at ds (suc i))
+    pub stays : (i : ℕ) → suc i < length ds → i ≢ p → i ≢ q → PassesTo nodes web next four (reverse_of (at ds i)) (at ds (suc i)) →
+        PassesTo nodes more after fewer (reverse_of (at ds i)) (at ds (suc i))
     stays i i_in not_p not_q l = is.others (reverse_of (at ds i)) (at ds (suc i)) l (elsewhere i i_in not_p not_q l)

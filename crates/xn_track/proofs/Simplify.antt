@@ -11,7 +11,7 @@ use Rattle.xn_model.specs.Orders.{crossing_count}
 use Rattle.xn_model.specs.Permutation.{count_below}
 use Rattle.xn_fewer.proofs.Has.{has-first, has-later}
 use Rattle.xn_fewer.proofs.Rising.{all_made}
-use Rattle.xn_track.specs.Relinking.{Leads}
+use Rattle.xn_track.specs.Relinking.{PassesTo}
 use Rattle.xn_track.specs.Simplifying.{LooseDrawingsGiveDrawings, LooseDrawingsGiveSimpleOnes, TracksGiveDrawings}
 use Rattle.xn_track.specs.Steps.{IsDoubleStep, IsStep, end_from, node_after, turned_walk}
 use Rattle.xn_track.specs.Tidying.{HasDrawingOf, order_along}
@@ -126,7 +126,7 @@ module _ (g : Graph) (edges : List ℕ) (is_graph : IsGraph g) where
         let sum : suc j + suc i ≡ length ds = omega (arith, i_in) in
         let size = length-reverse_walk ds in
         let p : EdgePath g web next four f false ds = edge_path g edges web next four walks is_graph track f f_in false in
-        let seam = path_seam (length web.ends) (Leads g.nodes web next four) p.from p.to ds p.path i i_in in (
+        let seam = path_seam (length web.ends) (PassesTo g.nodes web next four) p.from p.to ds p.path i i_in in (
           j,
           omega (arith, sum, size),
           ap (tail_of web.ends) (at-reverse_walk ds (suc j) i sum) ∙ sym seam.one_node,

@@ -8,7 +8,7 @@ use Rattle.xn_model.specs.Graph.{Graph, IsGraph, ends_at}
 use Rattle.xn_model.specs.Lists.{at, has, total}
 use Rattle.xn_model.specs.Loose.{times_walked}
 use Rattle.xn_model.specs.Map.{WalksTo, reverse_of, tail_of}
-use Rattle.xn_track.specs.Relinking.{IsRelinked, Leads, MayBeRelinked}
+use Rattle.xn_track.specs.Relinking.{IsRelinked, PassesTo, MayBeRelinked}
 use Rattle.xn_track.specs.Steps.{BeginningsAreExchanged, ClosedPartsAreCutOff, IsStep, MiddlesAreExchanged, crossing_over, end_from, node_after, reverse_walk, turned_walk, with_walk}
 use Rattle.xn_track.specs.Track.{GoesOn, IsGround, IsTrack, straight_on}
 use Rattle.xn_track.proofs.Blocks.{at_after}
@@ -24,7 +24,7 @@ use Rattle.xn_track.proofs.Tally.{times-flat_map, total-exchange, total-le, tota
 pub record EdgePath (g : Graph) (web : Graph) (next : ℕ → ℕ) (four : ℕ → Bool) (e : ℕ) (t : Bool) (ds : List ℕ) : Type 0 where
   pub from : ℕ
   pub to : ℕ
-  pub path : Path (length web.ends) (Leads g.nodes web next four) from ds to
+  pub path : Path (length web.ends) (PassesTo g.nodes web next four) from ds to
   pub at_from : tail_of web.ends from ≡ end_from g.ends e t
   pub at_to : tail_of web.ends to ≡ end_from g.ends e (not t)
 
@@ -37,7 +37,7 @@ as_walk g web next four ground e false ds p =
     let Q : ℕ → Type 0 = λ v. WalksTo web.ends (tail_of web.ends p.from) ds v in
     (subst P p.at_from (subst Q p.at_to walk.0), walk.1)
 as_walk g web next four ground e true ds p =
-    let back = path_reverse (length web.ends) (Leads g.nodes web next four) (leads_back g.nodes web next four ground) p.from p.to ds p.path in
+    let back = path_reverse (length web.ends) (PassesTo g.nodes web next four) (leads_back g.nodes web next four ground) p.from p.to ds p.path in
     let walk = from_path g.nodes web next four p.to p.from (reverse_walk ds) back in
     let P : ℕ → Type 0 = λ u. WalksTo web.ends u (reverse_walk ds) (ends_at g.ends e).1 in
     let Q : ℕ → Type 0 = λ v. WalksTo web.ends (tail_of web.ends p.to) (reverse_walk ds) v in
@@ -63,7 +63,7 @@ module _ (g : Graph) (edges : List ℕ) (web : Graph) (next : ℕ → ℕ) (four
       record {
         from = p.0;
         to = at (walks e) 0;
-        path = path_reverse (length web.ends) (Leads g.nodes web next four) (leads_back g.nodes web next four track.ground) (at (walks e) 0) p.0 (walks e) p.1;
+        path = path_reverse (length web.ends) (PassesTo g.nodes web next four) (leads_back g.nodes web next four track.ground) (at (walks e) 0) p.0 (walks e) p.1;
         at_from = p.3;
         at_to = p.2;
       }
@@ -106,7 +106,7 @@ module _ (g : Graph) (edges : List ℕ) (web : Graph) (next : ℕ → ℕ) (four
           WalksTo more.ends (ends_at g.ends f).0 (after_cut f) (ends_at g.ends f).1 × GoesOn g.nodes more.ends (straight_on more.ends fewer after) (after_cut f) =
           λ f f_in. elim (cases_eq f e) [
             | inl same ↦
-                let ends = path_ends_in (length web.ends) (Leads g.nodes web next four) own_path.from own_path.to (walks e) own_path.path in
+                let ends = path_ends_in (length web.ends) (PassesTo g.nodes web next four) own_path.from own_path.to (walks e) own_path.path in
                 let p : EdgePath g more after fewer e false shorter = record {
                   from = own_path.from;
                   to = own_path.to;
@@ -119,7 +119,7 @@ module _ (g : Graph) (edges : List ℕ) (web : Graph) (next : ℕ → ℕ) (four
                 subst (λ ds. P f ds) (sym (put_here walks e shorter f same)) (subst (λ x. P x shorter) (sym same) w)
             | inr other ↦
                 let f_path = edge_path f f_in false in
-                let ends = path_ends_in (length web.ends) (Leads g.nodes web next four) f_path.from f_path.to (walks f) f_path.path in
+                let ends = path_ends_in (length web.ends) (PassesTo g.nodes web next four) f_path.from f_path.to (walks f) f_path.path in
                 let p : EdgePath g more after fewer f false (walks f) = record {
                   from = f_path.from;
                   to = f_path.to;
@@ -262,7 +262,7 @@ beginnings_are_exchanged g edges web next four walks is_graph track e f i j s t 
     let q = path_of_two g edges web next four walks is_graph track e f s t e_in f_in differ in
     let once = alone_two g edges web next four walks is_graph track e f s t e_in f_in differ in
     let E = length web.ends in
-    let L = Leads g.nodes web next four in
+    let L = PassesTo g.nodes web next four in
     let p_in = path_ends_in E L p.from p.to one p.path in
     let q_in = path_ends_in E L q.from q.to two q.path in
     let low : (x : ℕ) → has edges x ≡ true → (r : Bool) → end_from g.ends x r < g.nodes = end_low g edges web next four walks is_graph track in
@@ -340,7 +340,7 @@ middles_are_exchanged g edges web next four walks is_graph track e f i j k l t e
     let q = path_of_two g edges web next four walks is_graph track e f s t e_in f_in differ in
     let once = alone_two g edges web next four walks is_graph track e f s t e_in f_in differ in
     let E = length web.ends in
-    let L = Leads g.nodes web next four in
+    let L = PassesTo g.nodes web next four in
     let p_in = path_ends_in E L p.from p.to one p.path in
     let q_in = path_ends_in E L q.from q.to two q.path in
     let low : (z : ℕ) → has edges z ≡ true → (r : Bool) → end_from g.ends z r < g.nodes = end_low g edges web next four walks is_graph track in
@@ -412,6 +412,6 @@ middles_are_exchanged g edges web next four walks is_graph track e f i j k l t e
           omega (arith, a, b, c));
     }
   where
-    seam_tail : (g : Graph) (web : Graph) (next : ℕ → ℕ) (four : ℕ → Bool) (a z : ℕ) (ds : List ℕ) → Path (length web.ends) (Leads g.nodes web next four) a ds z → (i : ℕ) → suc i < length ds →
+    seam_tail : (g : Graph) (web : Graph) (next : ℕ → ℕ) (four : ℕ → Bool) (a z : ℕ) (ds : List ℕ) → Path (length web.ends) (PassesTo g.nodes web next four) a ds z → (i : ℕ) → suc i < length ds →
         tail_of web.ends (reverse_of (at ds i)) ≡ node_after web.ends ds i
-    seam_tail g web next four a z ds path i i_in = sym (path_seam (length web.ends) (Leads g.nodes web next four) a z ds path i i_in).one_node
+    seam_tail g web next four a z ds path i i_in = sym (path_seam (length web.ends) (PassesTo g.nodes web next four) a z ds path i i_in).one_node

@@ -21,7 +21,7 @@ use Rattle.xn_fewer.proofs.Crossings.{crossing_at, crossings_apart, node_facts}
 use Rattle.xn_fewer.proofs.Has.{has-kept, has-picked}
 use Rattle.xn_fewer.proofs.Rising.{Rising, distinct-rising, rises-filter, rising-from_increasing}
 use Rattle.xn_track.specs.Cutting.{IsCutting, TurnsAsRuns, run_dart}
-use Rattle.xn_track.specs.Tidying.{IsDrawingOf, TracksThatMeetSimplyAreDrawings}
+use Rattle.xn_track.specs.Tidying.{IsDrawingOfEdges, TracksThatMeetSimplyAreDrawings}
 use Rattle.xn_track.specs.Track.{IsTrack, MeetSimply, passed}
 use Rattle.xn_track.proofs.Blocks.{at_place, place, place-first_segment, place-same, place_in, size_of}
 use Rattle.xn_track.proofs.Cutting.{cutting_leaves_a_map, run_even, run_odd}
@@ -444,14 +444,14 @@ module _ (g : Graph) (edges : List ℕ) (web : Graph) (next : ℕ → ℕ) (four
       (λ i j v i_in j_in one two. mid_apart i j one.0 two.0 (one.1 ∙ sym two.1)) in
       omega (arith, few, count-all (length pairs))
 
-  pub drawing : IsDrawingOf g edges order cut.0
+  pub drawing : IsDrawingOfEdges g edges order cut.0
   drawing = record {
     orders = orders g edges web next four walks is_graph track meet;
     is_flat_map = flat_drawn;
     crosses = λ e f low h. crosses e f h;
   }
 
-  pub tidied : (after : ℕ → ℕ) × IsDrawingOf g edges order after × (length pairs ≤ count_below web.nodes four)
+  pub tidied : (after : ℕ → ℕ) × IsDrawingOfEdges g edges order after × (length pairs ≤ count_below web.nodes four)
   tidied = (cut.0, drawing, no_more)
 
 pub tracks_that_meet_simply_are_drawings : TracksThatMeetSimplyAreDrawings

@@ -7,7 +7,7 @@ use Rattle.xn_surgery.specs.Splitting.{IsSplit}
 use Rattle.xn_track.specs.Track.{IsGround, straight_on}
 
 -- a walk that comes by the reverse of x goes on by y, over a further node
-pub record Leads (nodes : ℕ) (web : Graph) (next : ℕ → ℕ) (four : ℕ → Bool) (x y : ℕ) : Type 0 where
+pub record PassesTo (nodes : ℕ) (web : Graph) (next : ℕ → ℕ) (four : ℕ → Bool) (x y : ℕ) : Type 0 where
   pub x_in : x < 2 * length web.ends
   pub y_in : y < 2 * length web.ends
   pub high : nodes ≤ tail_of web.ends x
@@ -32,9 +32,9 @@ pub record IsRelinked (nodes : ℕ) (web : Graph) (next : ℕ → ℕ) (four : �
   pub one_more : more.nodes ≡ suc web.nodes
   pub but_this : (v : ℕ) → fewer v ≡ (four v && not (v == tail_of web.ends a))
   pub ground : IsGround nodes more after fewer
-  pub from_a : Leads nodes more after fewer a (next (next b))
-  pub from_b : Leads nodes more after fewer b (next (next a))
-  pub others : (c d : ℕ) → Leads nodes web next four c d → tail_of web.ends c ≢ tail_of web.ends a → Leads nodes more after fewer c d
+  pub from_a : PassesTo nodes more after fewer a (next (next b))
+  pub from_b : PassesTo nodes more after fewer b (next (next a))
+  pub others : (c d : ℕ) → PassesTo nodes web next four c d → tail_of web.ends c ≢ tail_of web.ends a → PassesTo nodes more after fewer c d
   pub tails : (d : ℕ) → d < 2 * length web.ends → tail_of web.ends d ≢ tail_of web.ends a → tail_of more.ends d ≡ tail_of web.ends d
   pub count : count_below web.nodes four ≡ suc (count_below more.nodes fewer)
 

@@ -33,14 +33,14 @@ order_along edges ends walks e =
     if has edges e then map (other_at edges ends walks e) (filter (is_met edges ends walks e) (passed ends (walks e))) else []
 
 -- the map of the planarised graph of some edges is flat, and the edges cross at each crossing
-pub record IsDrawingOf (g : Graph) (edges : List ℕ) (ord : ℕ → List ℕ) (next : ℕ → ℕ) : Type 0 where
+pub record IsDrawingOfEdges (g : Graph) (edges : List ℕ) (ord : ℕ → List ℕ) (next : ℕ → ℕ) : Type 0 where
   pub orders : IsOrders g.ends edges ord
   pub is_flat_map : IsFlat (web_of g edges ord) next
   pub crosses : (e f : ℕ) → e < f → has (ord e) f ≡ true → CrossesAt edges ord next e f
 
 -- the edges have a drawing with at most so many crossings
 abbrev pub HasDrawingOf : Graph → List ℕ → ℕ → Type 0
-HasDrawingOf g edges most = (ord : ℕ → List ℕ) × (next : ℕ → ℕ) × IsDrawingOf g edges ord next × (length (crossings_of edges ord) ≤ most)
+HasDrawingOf g edges most = (ord : ℕ → List ℕ) × (next : ℕ → ℕ) × IsDrawingOfEdges g edges ord next × (length (crossings_of edges ord) ≤ most)
 
 -- the orders along the walks are those of a drawing, with no more crossings than there are nodes with four darts
 abbrev pub TracksThatMeetSimplyAreDrawings : Type 0
@@ -49,4 +49,4 @@ TracksThatMeetSimplyAreDrawings =
     IsTrack g edges web next four walks →
     MeetSimply g edges web.ends walks →
     let ord : ℕ → List ℕ = order_along edges web.ends walks in
-    (after : ℕ → ℕ) × IsDrawingOf g edges ord after × (length (crossings_of edges ord) ≤ count_below web.nodes four)
+    (after : ℕ → ℕ) × IsDrawingOfEdges g edges ord after × (length (crossings_of edges ord) ≤ count_below web.nodes four)
