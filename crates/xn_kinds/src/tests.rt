@@ -52,24 +52,30 @@ fn rows_are_copied(rt: HostRuntime) -> Result<(), Fail> {
 }
 
 #[test]
-fn each_evidence_is_copied(rt: HostRuntime) -> Result<(), Fail> {
+fn three_against_three_is_copied(rt: HostRuntime) -> Result<(), Fail> {
     let three = Evidence::ThreeThree {
         branch: [0, 1, 2, 3, 4, 5],
         paths: Paths::new(singles(rt.alloc(), &[7, 8])?),
     };
     let copy = three.copy(rt.alloc())?;
-    let Evidence::ThreeThree { branch, paths } = &copy else {
-        return Err("another kind of evidence")?;
-    };
-    assert_eq!(rt; branch.as_slice(), [0, 1, 2, 3, 4, 5].as_slice());
-    assert_eq!(rt; paths.at(1), [8].as_slice());
+    if let Evidence::ThreeThree { branch, paths } = &copy {
+        assert_eq!(rt; branch.as_slice(), [0, 1, 2, 3, 4, 5].as_slice());
+        assert_eq!(rt; paths.len(), 2);
+        assert_eq!(rt; paths.at(1), [8].as_slice());
+        return Ok(());
+    }
+    Err("another kind of evidence")?
+}
+
+#[test]
+fn an_extension_is_copied(rt: HostRuntime) -> Result<(), Fail> {
     let list = Sequence::new([4, 2].to_vec(rt.alloc())?);
     let copy = Evidence::Extension { list }.copy(rt.alloc())?;
-    let Evidence::Extension { list } = &copy else {
-        return Err("another kind of evidence")?;
-    };
-    assert_eq!(rt; list.as_slice(), [4, 2].as_slice());
-    Ok(())
+    if let Evidence::Extension { list } = &copy {
+        assert_eq!(rt; list.as_slice(), [4, 2].as_slice());
+        return Ok(());
+    }
+    Err("another kind of evidence")?
 }
 
 #[test]
