@@ -13,7 +13,7 @@ use Rattle.xn_graph.specs.Limits.{graph_of}
 use Rattle.xn_extend.specs.Extended.{listed_web}
 use Rattle.xn_extend.proofs.Misfits.{any_at, few_different}
 use Rattle.xn_components.specs.Listing.{ListsAll}
-use Rattle.xn_components.proofs.Flooding.{has_at}
+use Rattle.xn_components.proofs.Flooding.{has_at, in_range}
 use Rattle.xn_components.proofs.Overlaid.{few_apart}
 
 -- the place of a number that is listed
@@ -79,19 +79,14 @@ module _ (web : Graph) (order list : List ℕ) (apart : AreSegmentsApart web.end
   pub all_as_many : length list ≡ length order
   all_as_many = omega (arith, size_list, many m order lists, few_apart web.ends order apart)
 
-  in_range : (xs : List ℕ) → AreSegmentsApart web.ends xs → (s : ℕ) → has xs s ≡ true → s < m
-  in_range xs xs_apart s h =
-      let found = any_at (λ y. eqb y s) xs h in
-      omega (arith, eqb-true (at xs found.0) s found.2, xs_apart.segments_in found.0 found.1)
-
   pub all_same : (s : ℕ) → has list s ≡ has order s
   all_same s = elim (cases_lt s m) [
     | inl low ↦
         let here : has list s ≡ true = subst (λ x. has list x ≡ true) (at_list s low) (has_at list s (omega (arith, low, size_list))) in
         here ∙ sym (lists s low)
     | inr high ↦
-        let none : has list s ≡ false = false_from_ne_true (has list s) (λ h. let low = in_range list all_apart s h in omega (arith, low, high)) in
-        let nor : has order s ≡ false = false_from_ne_true (has order s) (λ h. let low = in_range order apart s h in omega (arith, low, high)) in
+        let none : has list s ≡ false = false_from_ne_true (has list s) (λ h. let low = in_range web.ends list all_apart s h in omega (arith, low, high)) in
+        let nor : has order s ≡ false = false_from_ne_true (has order s) (λ h. let low = in_range web.ends order apart s h in omega (arith, low, high)) in
         none ∙ sym nor
   ]
 

@@ -8,13 +8,15 @@ use Rattle.xn_model.specs.Graph.{ends_at, touches}
 use Rattle.xn_model.specs.Lists.{at, has}
 use Rattle.xn_model.specs.Map.{tail_of}
 use Rattle.xn_model.proofs.Darts.{tail-even, tail-odd}
+use Rattle.xn_genus.specs.Part.{AreSegmentsApart}
 use Rattle.xn_map.specs.Marks.{is_marked}
 use Rattle.xn_extend.specs.ListFlaw.{AllFit, SharesNode, share_node}
 use Rattle.xn_extend.proofs.Listing.{grows_from_fit}
 use Rattle.xn_extend.proofs.Misfits.{any_at, few_different}
 use Rattle.xn_components.specs.Flood.{AreBothMet, AreWholeComponents, IsFlood, MarksComponent, ReachedBy}
 
-has_append : (xs ys : List ℕ) (x : ℕ) → has (xs ++ ys) x ≡ (has xs x || has ys x)
+-- what is in either list is in both together
+pub has_append : (xs ys : List ℕ) (x : ℕ) → has (xs ++ ys) x ≡ (has xs x || has ys x)
 has_append [] ys x = refl
 has_append (y ∷ xs) ys x = ap (λ b. eqb y x || b) (has_append xs ys x) ∙ or_joined (eqb y x) (has xs x) (has ys x)
   where
@@ -30,6 +32,12 @@ pub has_at : (xs : List ℕ) (i : ℕ) → i < length xs → has xs (at xs i) �
 has_at [] i below = absurd (omega (arith, below))
 has_at (x ∷ xs) zero below = or_left (eqb x x) _ (eq-eqb x x refl)
 has_at (x ∷ xs) (suc i) below = or_right (eqb x (at xs i)) (has xs (at xs i)) (has_at xs i (omega (arith, below)))
+
+-- different segments of a web are below their number
+pub in_range : (ends : List (ℕ × ℕ)) (list : List ℕ) → AreSegmentsApart ends list → (s : ℕ) → has list s ≡ true → s < length ends
+in_range ends list apart s h =
+    let found = any_at (λ y. eqb y s) list h in
+    omega (arith, eqb-true (at list found.0) s found.2, apart.segments_in found.0 found.1)
 
 -- two segments that meet one node share it
 pub share_at : (ends : List (ℕ × ℕ)) (r s v : ℕ) → touches (ends_at ends r) v ≡ true → touches (ends_at ends s) v ≡ true → share_node ends r s ≡ true
@@ -50,7 +58,7 @@ module _ (list : List ℕ) (t : ℕ) where
   pub at_old : (i : ℕ) → i < length list → at longer i ≡ at list i
   at_old i low = get_or_append_left list (t ∷ []) 0 i low
 
-  at_new : at longer (length list) ≡ t
+  pub at_new : at longer (length list) ≡ t
   at_new = get_or-append_seam list t [] 0
 
 module _ (ends : List (ℕ × ℕ)) (old marks met : List Bool) (list : List ℕ) (flood : IsFlood ends old marks met list) (t v : ℕ)

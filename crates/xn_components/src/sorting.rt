@@ -5,8 +5,8 @@ ghost use Rattle.xn_genus.specs.Part.{AreSegmentsApart};
 ghost use Rattle.xn_components.specs.Listing.{IsLaid, IsRearranged};
 ghost use Rattle.xn_components.specs.Ranks.{AreRanks, IsRanking, Renames, ranked_dart};
 
-use crate::listing::listed_web;
 use std::alloc::{AllocError, Global};
+use xn_extend::listed_web;
 use xn_genus::laws::renumbering;
 use xn_graph::Web;
 use xn_map::{Map, MapErr};

@@ -40,8 +40,8 @@ pub fn extend(alloc: Global, web: &Web, list: &[u32]) -> Result<Extended, AllocE
     }
 }
 
-// The web of all nodes and the listed segments.
-fn listed_web(alloc: Global, web: &Web, list: &[u32]) -> Result<Web, AllocError>
+/// The web of all nodes and the listed segments, in the order of the list. It fails only for want of memory.
+pub fn listed_web(alloc: Global, web: &Web, list: &[u32]) -> Result<Web, AllocError>
     requires { AreSegmentsApart web.now.ends list.now }
     ensures web { IfOk result (λ listed. listed ≡ listed_web web.now list.now) }
     ensures limited { OnOk result (IsLimitedWeb web.now) }

@@ -9,5 +9,5 @@ mod search;
 #[cfg(test)]
 mod tests;
 
-pub use extending::{Extended, extend};
+pub use extending::{Extended, extend, listed_web};
 pub use lists::list_flaw;

@@ -1,0 +1,9 @@
+pub mod Around
+pub mod Beginning
+pub mod Choosing
+pub mod Finding
+pub mod Parts
+pub mod Placing
+pub mod Reordered
+pub mod Stuck
+pub mod Turning

@@ -1,0 +1,178 @@
+// Numbers of the faces of a map that grows: proposals where to put a path.
+ghost use Rattle.std.specs.Prelude.{◌≤◌};
+
+use crate::rounds::{Rounds, read, write};
+use std::alloc::{AllocError, Global};
+use xn_map::Map;
+
+/// A number for each dart, that of its face, and hits that are counted for each face.
+#[derive(Drop)]
+pub struct Numbering {
+    numbers: Vec<u32>,
+    hits: Vec<u64>,
+    /// Hits up to this number are old.
+    base: u64,
+    /// The nodes of a face before it is split, and of the two faces that it becomes.
+    before: Rounds,
+    first: Rounds,
+    second: Rounds,
+}
+
+impl Numbering {
+    /// No dart, and nodes below n.
+    pub fn new(alloc: Global, n: u32) -> Result<Numbering, AllocError> {
+        Ok(Numbering {
+            numbers: Vec::new(alloc),
+            hits: Vec::new(alloc),
+            base: 0,
+            before: Rounds::new(alloc, n)?,
+            first: Rounds::new(alloc, n)?,
+            second: Rounds::new(alloc, n)?,
+        })
+    }
+
+    /// The number of a dart's face.
+    pub fn of(&self, d: u32) -> u32 {
+        read(&self.numbers, d)
+    }
+
+    /// Two darts more, in this face.
+    pub fn push_darts(&mut self, face: u32) -> Result<(), AllocError> {
+        self.numbers.push(face)?;
+        self.numbers.push(face)?;
+        Ok(())
+    }
+
+    /// Keeps the nodes of the face of a dart, as those before it is split.
+    pub fn keep(&mut self, map: &Map, d: u32) {
+        mark_nodes(map, d, &mut self.before);
+    }
+
+    /// Gives the face of a dart a number of its own, and keeps the nodes of it and of the face on the other side.
+    pub fn split(&mut self, map: &Map, d: u32) -> Result<(), AllocError> {
+        let face = (self.hits.len() as u64 % (1 << 32)) as u32;
+        self.hits.push(0)?;
+        self.set_face(map, d, face);
+        mark_nodes(map, d, &mut self.first);
+        mark_nodes(map, d ^ 1, &mut self.second);
+        Ok(())
+    }
+
+    // Numbers the darts of a face.
+    fn set_face(&mut self, map: &Map, d: u32, face: u32) {
+        let mut e = d;
+        for _ in 0..2 * map.web().segments() {
+            write(self.numbers.as_mut_slice(), e, face);
+            e = face_next(map, e);
+            if e == d {
+                return;
+            }
+        }
+    }
+
+    /// How many faces have a corner at each of these nodes, and one of them.
+    pub fn common(&mut self, map: &Map, nodes: &[u32]) -> (u32, u32) {
+        let base = self.base;
+        self.base = base.saturating_add(nodes.len() as u64);
+        let mut found = (0, 0);
+        for (i, v) in nodes.iter().enumerate() {
+            let hits = base.saturating_add(i as u64);
+            let least = if i == 0 { 0 } else { hits };
+            found = self.hit(map, *v, least, hits);
+        }
+        found
+    }
+
+    // Hits the faces at a node that have this many hits: how many there are, and one of them.
+    fn hit(&mut self, map: &Map, v: u32, least: u64, most: u64) -> (u32, u32) {
+        let mut count: u32 = 0;
+        let mut last = 0;
+        let Some(first) = map.dart_of(v) else {
+            return (0, 0)
+        };
+        let mut d = first;
+        for _ in 0..2 * map.web().segments() {
+            let face = self.of(d);
+            let hits = self.hits_of(face);
+            if least <= hits && hits <= most {
+                self.set_hits(face, most.saturating_add(1));
+                count = count.saturating_add(1);
+                last = face;
+            }
+            d = next_of(map, d);
+            if d == first {
+                break;
+            }
+        }
+        (count, last)
+    }
+
+    fn hits_of(&self, face: u32) -> u64 {
+        if (face as usize) < self.hits.len() {
+            self.hits[face as usize]
+        } else {
+            0
+        }
+    }
+
+    fn set_hits(&mut self, face: u32, hits: u64) {
+        if (face as usize) < self.hits.len() {
+            self.hits[face as usize] = hits;
+        }
+    }
+
+    /// How many faces have a corner at each of these nodes, once a face is split: the two take its place.
+    pub fn recount(&self, faces: u32, nodes: &[u32]) -> u32 {
+        let was = one_if(all_marked(&self.before, nodes));
+        let now = one_if(all_marked(&self.first, nodes)) + one_if(all_marked(&self.second, nodes));
+        faces.saturating_add(now).saturating_sub(was)
+    }
+}
+
+// 1 where it is so, else 0.
+fn one_if(is: bool) -> u32
+    ensures { result ≤ 1 }
+{
+    if is { 1 } else { 0 }
+}
+
+// Whether each of these nodes is marked.
+fn all_marked(marks: &Rounds, nodes: &[u32]) -> bool {
+    nodes.iter().all(|v| marks.is_marked(*v))
+}
+
+// Marks the nodes of the face of a dart, and no other.
+fn mark_nodes(map: &Map, d: u32, marks: &mut Rounds) {
+    marks.begin();
+    let mut e = d;
+    for _ in 0..2 * map.web().segments() {
+        marks.mark(tail_of(map, e));
+        e = face_next(map, e);
+        if e == d {
+            return;
+        }
+    }
+}
+
+/// The next dart round the node, or the dart itself where there is no such dart.
+pub fn next_of(map: &Map, d: u32) -> u32 {
+    if d < 2 * map.web().segments() {
+        map.next(d)
+    } else {
+        d
+    }
+}
+
+// The next dart along the face.
+fn face_next(map: &Map, d: u32) -> u32 {
+    next_of(map, d ^ 1)
+}
+
+// The node of a dart, or 0 where there is no such dart.
+fn tail_of(map: &Map, d: u32) -> u32 {
+    if d < 2 * map.web().segments() {
+        map.tail(d)
+    } else {
+        0
+    }
+}
