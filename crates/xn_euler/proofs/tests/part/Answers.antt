@@ -33,5 +33,5 @@ resolve-requires-clause-four g c =
         least = (omega arith, omega arith, omega arith);
       },
       by_way c.args.how c.args.a c.next-b.result c.next-c.result c.next-d.result (λ same. omega arith) (λ same. omega arith) (λ same. omega arith)
-      (λ same. omega arith) (λ same. omega arith),
+          (λ same. omega arith) (λ same. omega arith),
     )
