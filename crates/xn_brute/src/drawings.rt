@@ -6,7 +6,7 @@ ghost use Rattle.xn_model.specs.Web.{first_segment};
 ghost use Rattle.xn_graph.specs.Limits.{graph_of};
 ghost use Rattle.xn_brute.specs.Drawings.{AllCross, AreShort, IsDrawingOf, IsListedFlatMap, cross_along, crosses_at, order_in};
 
-use crate::lists::{at, position_in};
+use crate::lists::{at, numbers, position_in};
 use crate::orders::{are_orders, are_short, order};
 use crate::webs::{crossings, segments};
 use std::alloc::{AllocError, Global};
@@ -22,12 +22,19 @@ pub fn is_listed_drawing(
 ) -> Result<bool, AllocError>
     ensures { IfOk result (λ yes. IsTrue yes ↔ IsDrawingOf graph.now drawing.now) }
 {
-    prove!(graph.edges() <= 1_000);
-    let edges = graph.all_edges(alloc)?;
+    let edges = all_edges(alloc, graph)?;
     if !are_short(&drawing.orders) {
         return Ok(false);
     }
     is_drawing(alloc, graph, drawing, &edges)
+}
+
+/// The edges of a graph, in order.
+pub fn all_edges(alloc: Global, graph: &Graph) -> Result<Vec<u32>, AllocError>
+    ensures edges { IfOk result (λ edges. edges.items ≡ edges_of graph.now) }
+    ensures few { IfOk result (λ edges. length edges.items ≤ 1000) }
+{
+    numbers(alloc, graph.edges())
 }
 
 /// The same, where the edges of the graph are at hand.

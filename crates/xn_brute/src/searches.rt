@@ -3,6 +3,7 @@ ghost use Rattle.std.specs.Prelude.{◌≡◌, ◌+◌, ◌≤◌, ◌<◌, ◌+
 ghost use Rattle.xn_model.specs.Graph.{edges_of};
 ghost use Rattle.xn_brute.specs.Found.{BeginOrders, BeginsList, FindsBelow, SaysWithin};
 
+use crate::drawings::all_edges;
 use crate::lists::appended;
 use crate::rotations::are_drawn;
 use std::alloc::{AllocError, Global};
@@ -16,8 +17,7 @@ use xn_kinds::Orders;
 pub fn has_drawing_within(alloc: Global, graph: &Graph, most: u32) -> Result<bool, AllocError>
     ensures { IfOk result (SaysWithin graph.now most) }
 {
-    prove!(graph.edges() <= 1_000);
-    let edges = graph.all_edges(alloc)?;
+    let edges = all_edges(alloc, graph)?;
     let search = Search {
         graph,
         edges: &edges,

@@ -1,14 +1,8 @@
-use Rattle.std.proofs.Common.{ap, arith, length, ◌∙◌}
-use Rattle.std.proofs.lemmas.List.FromFn.{length-range_with_len}
+use Rattle.std.proofs.Common.{ap, arith, ◌∙◌}
 use Rattle.std.proofs.lemmas.Result.{IfOk-weaker}
 use Rattle.xn_list.specs.Lists.{lists_of}
 use Rattle.xn_brute.proofs.AtMost.{says_within}
 use Rattle.xn_brute.proofs.searches.has_drawing_within.Goals as goal
-
-pub lists_from-requires-clause-few : goal.lists_from-requires-clause-few
-lists_from-requires-clause-few c =
-    let n = length c.args.graph.now.ends in
-    omega (arith, ap length (c.deref.ensures.value ∙ c.in_ok-edges.ensures), length-range_with_len 0 n, c.edges.ensures.limited.few_edges)
 
 pub returns : goal.returns
 returns c =
