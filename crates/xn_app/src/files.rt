@@ -1,9 +1,8 @@
 // Reading the files of a command.
 ghost use Rattle.std.specs.Prelude.{◌≡◌, ◌≤◌, Some, IfOk, IfErr, IfSome, length};
 ghost use Rattle.std.specs.String.{string_bytes};
-ghost use Rattle.xn_gml.specs.Meaning.{graph_of_text};
 ghost use Rattle.xn_gml.specs.ReadView.{found_in};
-ghost use Rattle.xn_io.specs.Input.{bytes_of, AreAllOf};
+ghost use Rattle.xn_io.specs.Input.{AreAllOf};
 ghost use Rattle.xn_app.specs.Status.{IsEarly};
 ghost use Rattle.xn_app.specs.Files.{AreRead, EndsReading, IsFine, IsInMemory, IsOneBegun, Shows, StopsReading};
 

@@ -10,7 +10,7 @@ use Rattle.xn_proof.specs.declared.item.Item.TheVariants as item
 use Rattle.xn_tree.specs.Walk.{after}
 use Rattle.xn_check.specs.FrontSaid.{front_said}
 use Rattle.xn_check.specs.Judging.{Rules}
-use Rattle.xn_check.specs.Meaning.{Agrees, DrawAgrees, KeepsFirst}
+use Rattle.xn_check.specs.Meaning.{Agrees, DrawAgrees, MayOpenFirst}
 use Rattle.xn_check.specs.RowsSaid.{rows_said}
 use Rattle.xn_check.specs.Said.{Said, said}
 use Rattle.xn_check.specs.Verdict.{check_rules, draw_rules}
@@ -127,14 +127,14 @@ module _ (g : Graph) (loops : ℕ) where
   none_pending k rows [] ends = refl
   none_pending k rows (t ∷ pending) ends = absurd ends
 
-  finish_more : (k : ℕ) (rows : List Row) (pending : List State) (node : Node) (tree : List Node) → KeepsFirst g k rows pending node →
+  finish_more : (k : ℕ) (rows : List Row) (pending : List State) (node : Node) (tree : List Node) → MayOpenFirst g k rows pending node →
       AreTrees (MayOpen g k rows) children (after pending node) tree → AreTrees (MayOpen g k rows) children pending (node ∷ tree)
   finish_more k rows [] node tree keeps ends = absurd keeps
   finish_more k rows (t ∷ pending) node tree keeps ends = (keeps, ends)
 
   finish_apart : (k : ℕ) (rows : List Row) (pending : List State) (node : Node) (tree : List Node) →
       AreTrees (MayOpen g k rows) children pending (node ∷ tree) →
-      KeepsFirst g k rows pending node × AreTrees (MayOpen g k rows) children (after pending node) tree
+      MayOpenFirst g k rows pending node × AreTrees (MayOpen g k rows) children (after pending node) tree
   finish_apart k rows [] node tree ends = absurd ends
   finish_apart k rows (t ∷ pending) node tree ends = (ends.0, ends.1)
 

@@ -11,9 +11,9 @@ use Rattle.xn_proof.specs.declared.item.Item.{Item}
 use Rattle.xn_proof.specs.declared.item.Item.TheVariants as item
 use Rattle.xn_check.specs.Fitting.{RowsFit}
 use Rattle.xn_check.specs.FrontFits.{FrontFits, FrontStands}
-use Rattle.xn_check.specs.Gives.{GivesVerdict, RefusesText, bounds_in}
+use Rattle.xn_check.specs.Gives.{RefusesText}
 use Rattle.xn_check.specs.Judge.{HaveOneTask, IsReady, Kept, graph_kept, rules_of, said_of}
-use Rattle.xn_check.specs.Judging.{Judged, Took, at_end}
+use Rattle.xn_check.specs.Judging.{Judged, Took}
 use Rattle.xn_check.specs.Meaning.{Agrees}
 use Rattle.xn_check.specs.Parts.{MayCome}
 use Rattle.xn_check.specs.RowsSaid.{RowsSaid, row_by_list, row_by_path, rows_said, with_row}

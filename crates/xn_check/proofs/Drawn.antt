@@ -1,5 +1,5 @@
 -- The drawing of a text is judged line by line.
-use Rattle.std.proofs.Common.{◌≡◌, ℕ, Bool, List, [], ◌∷◌, Result, Ok, Err, sym, subst, ◌∙◌}
+use Rattle.std.proofs.Common.{◌≡◌, ℕ, Bool, List, ◌∷◌, Ok, Err, sym, subst}
 use Rattle.xn_model.specs.Graph.{Graph}
 use Rattle.xn_kinds.specs.declared.drawings.Drawing.{Drawing}
 use Rattle.xn_text.specs.Pieces.{lines_of}
@@ -7,9 +7,9 @@ use Rattle.xn_proof.specs.Forms.{Line, Reached, next_at}
 use Rattle.xn_proof.specs.declared.flaw.AnswerErr.{AnswerErr}
 use Rattle.xn_proof.specs.declared.item.Item.{Item}
 use Rattle.xn_check.specs.FrontFits.{FrontFits, FrontStands}
-use Rattle.xn_check.specs.FrontSaid.{FrontSaid, drawing_said, front_said}
-use Rattle.xn_check.specs.Gives.{GivesDrawing, RefusesText}
-use Rattle.xn_check.specs.Judging.{Took, at_end}
+use Rattle.xn_check.specs.FrontSaid.{FrontSaid, front_said}
+use Rattle.xn_check.specs.Gives.{RefusesText}
+use Rattle.xn_check.specs.Judging.{Took}
 use Rattle.xn_check.specs.Verdict.{draw_rules}
 use Rattle.xn_check.proofs.Folds.{Leads, stops, took}
 use Rattle.xn_check.proofs.FrontPlaces.{line_ready}

@@ -1,14 +1,13 @@
 -- A text is judged line by line: what comes of the lines that are left comes of the text.
-use Rattle.std.proofs.Common.{◌≡◌, ℕ, inl, inr, Bool, true, false, cond, List, [], ◌∷◌, map, Result, Ok, Err, refl, sym, subst, ap}
+use Rattle.std.proofs.Common.{◌≡◌, ℕ, inl, inr, Bool, List, ◌∷◌, map, Result, Ok, Err, refl, sym, subst, ap}
 use Rattle.xn_kinds.specs.declared.flaws.Flaw.{Flaw}
 use Rattle.xn_text.specs.Pieces.{lines_of}
-use Rattle.xn_proof.specs.Forms.{Line, Reached, is_end, next_at, start_state}
-use Rattle.xn_proof.specs.Reading.{syntax}
+use Rattle.xn_proof.specs.Forms.{Line, Reached, next_at}
 use Rattle.xn_proof.specs.declared.flaw.AnswerErr.{AnswerErr}
 use Rattle.xn_proof.specs.declared.flaw.AnswerErr.TheVariants as errors
 use Rattle.xn_proof.specs.declared.item.Item.{Item}
 use Rattle.xn_check.specs.Gives.{RefusesText}
-use Rattle.xn_check.specs.Judging.{AtEnd, Judges, JudgesTo, KeepsRules, OnLine, Rules, StopsAt, Took, at_end}
+use Rattle.xn_check.specs.Judging.{Judges, JudgesTo, KeepsRules, OnLine, Rules, StopsAt, Took}
 
 -- the lines that are left
 abbrev pub lines_left : ℕ × List ℕ → List Line

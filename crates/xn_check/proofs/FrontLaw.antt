@@ -1,7 +1,5 @@
 -- The front verdict in the words of the answer.
 use Rattle.std.proofs.Common.{◌≡◌, ℕ, ◌^◌, ◌<◌, List, [], ◌∷◌, ◌++◌, length, map, Ok, refl, sym, subst, ap, ◌∙◌, append_assoc}
-use Rattle.xn_model.specs.Drawing.{IsListedDrawing, order_of}
-use Rattle.xn_model.specs.Orders.{crossing_count}
 use Rattle.xn_draw.specs.Seen.{seen_of}
 use Rattle.xn_draw.specs.declared.results.Seen.{Seen}
 use Rattle.xn_kinds.specs.declared.answers.Answer.{Answer}

@@ -15,7 +15,7 @@ use Rattle.xn_kinds.specs.declared.trees.Node.TheVariants.{Leaf}
 use Rattle.xn_proof.specs.declared.flaw.AnswerErr.TheVariants as errors
 use Rattle.xn_tree.specs.Leaf.{IsRowOf}
 use Rattle.xn_check.specs.Judging.{RefusesLine}
-use Rattle.xn_check.specs.Meaning.{KeepsFirst, StepFails, need_of}
+use Rattle.xn_check.specs.Meaning.{MayOpenFirst, StepFails, need_of}
 use Rattle.xn_check.specs.Parts.{IsInRange}
 
 -- what a test tells
@@ -73,7 +73,7 @@ rows_of_parts g rows parts hold below = λ k d small.
 
 module _ (g : Graph) (k number n : ℕ) (rows : List Row) (d : ℕ) (parts : List (ℕ × ℕ)) where
   pub leaf_keeps : (pending : List State) (b : ℤ) → pending ≢ [] → IsInRange (length rows) (Leaf d parts) → Rise parts →
-      ((t : State) (rest : List State) → pending ≡ t ∷ rest → IsBound g rows t d parts b) → need_of k d <ℤ b → KeepsFirst g k rows pending (Leaf d parts)
+      ((t : State) (rest : List State) → pending ≡ t ∷ rest → IsBound g rows t d parts b) → need_of k d <ℤ b → MayOpenFirst g k rows pending (Leaf d parts)
   leaf_keeps [] b some range rise is strong = absurd (some refl)
   leaf_keeps (t ∷ pending) b some range rise is strong =
       (range.0, range.1, record { rise = rise; below = range.2; multipliers = range.3 }, (b, is t pending refl, strong))

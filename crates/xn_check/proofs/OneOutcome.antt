@@ -23,7 +23,7 @@ use Rattle.xn_rows.proofs.Excluded.{no_row_flaw, one_row_flaw}
 use Rattle.xn_check.specs.FrontSaid.{FrontSaid, FrontSeen, graph_said}
 use Rattle.xn_check.specs.Judging.{AtEnd, Judges, OnLine, Rules}
 use Rattle.xn_check.specs.Laws.{OneDrawVerdict, OneFrontVerdict, OneVerdict}
-use Rattle.xn_check.specs.Meaning.{Agrees, DrawnFails, Breaks, DrawAgrees, DrawBreaks, FrontAgrees, FrontBreaks, KeepsFirst, NodeFails, PathFails, RowFails, StepFails, need_of}
+use Rattle.xn_check.specs.Meaning.{Agrees, DrawnFails, Breaks, DrawAgrees, DrawBreaks, FrontAgrees, FrontBreaks, MayOpenFirst, NodeFails, PathFails, RowFails, StepFails, need_of}
 use Rattle.xn_check.specs.RowsSaid.{row_by_list, row_by_path}
 use Rattle.xn_check.specs.Said.{Said}
 use Rattle.xn_check.specs.Verdict.{check_rules, draw_rules, front_rules}
@@ -149,7 +149,7 @@ module _ (g : Graph) (loops : ℕ) where
       (subst (λ (v : ℤ). a ≤ℤ v) second.met.2 (first.below_all second.met.0 second.met.1))
       (subst (λ (v : ℤ). b ≤ℤ v) first.met.2 (second.below_all first.met.0 first.met.1))
 
-  step_apart : (k : ℕ) (rows : List Row) (pending : List State) (n : ℕ) (node : Node) (kind : FlawKind) → KeepsFirst g k rows pending node →
+  step_apart : (k : ℕ) (rows : List Row) (pending : List State) (n : ℕ) (node : Node) (kind : FlawKind) → MayOpenFirst g k rows pending node →
       StepFails g k rows pending n node kind → ⊥
   step_apart k rows [] n node kind keeps fails = keeps
   step_apart k rows (t ∷ pending) n (Pair e f) kind keeps fails = fails.0 keeps

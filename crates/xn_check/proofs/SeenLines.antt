@@ -1,13 +1,13 @@
 -- The drawing of a text, whatever its graph, is judged line by line.
-use Rattle.std.proofs.Common.{◌≡◌, ℕ, Bool, List, [], ◌∷◌, Result, Ok, Err}
+use Rattle.std.proofs.Common.{◌≡◌, ℕ, Bool, List, ◌∷◌, Ok, Err}
 use Rattle.xn_draw.specs.declared.results.Seen.{Seen}
 use Rattle.xn_text.specs.Pieces.{lines_of}
 use Rattle.xn_proof.specs.Forms.{Reached}
 use Rattle.xn_proof.specs.declared.flaw.AnswerErr.{AnswerErr}
 use Rattle.xn_check.specs.FrontFits.{FrontStands}
 use Rattle.xn_check.specs.FrontSaid.{FrontSeen}
-use Rattle.xn_check.specs.Gives.{GivesSeen, RefusesText}
-use Rattle.xn_check.specs.Judging.{Took, at_end}
+use Rattle.xn_check.specs.Gives.{RefusesText}
+use Rattle.xn_check.specs.Judging.{Took}
 use Rattle.xn_check.specs.Verdict.{front_rules}
 use Rattle.xn_check.proofs.Folds.{Leads, stops, took}
 

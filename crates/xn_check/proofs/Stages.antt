@@ -20,7 +20,7 @@ use Rattle.xn_proof.specs.declared.places.Block.{Block}
 use Rattle.xn_proof.specs.declared.places.Place.{Place}
 use Rattle.xn_proof.specs.declared.places.Place.TheVariants as place
 use Rattle.xn_tree.specs.Walk.{after}
-use Rattle.xn_check.specs.Meaning.{Agrees, KeepsFirst}
+use Rattle.xn_check.specs.Meaning.{Agrees, MayOpenFirst}
 use Rattle.xn_check.specs.RowsSaid.{RowsSaid, row_by_list, row_by_path, with_row}
 use Rattle.xn_check.specs.Said.{Said, said}
 use Rattle.xn_check.proofs.Taken.{given}
@@ -104,7 +104,7 @@ one_row g (Some row) s pending holds known =
     record { rows_hold = All-push (RowHolds g) s.whole row known.rows_hold holds; start = known.start }
 
 grow : (g : Graph) (k : ℕ) (rows : List Row) (pending : List State) (node : Node) (tree : List Node) → LeadsTo g k rows pending tree →
-    KeepsFirst g k rows pending node → LeadsTo g k rows (after pending node) (tree ++ node ∷ [])
+    MayOpenFirst g k rows pending node → LeadsTo g k rows (after pending node) (tree ++ node ∷ [])
 grow g k rows [] node tree leads keeps = absurd keeps
 grow g k rows (t ∷ pending) node tree leads keeps =
     λ more ends. subst (Proves g k rows empty_state) (sym (append_assoc tree (node ∷ []) more)) (leads (node ∷ more) (keeps, ends))

@@ -24,9 +24,3 @@ taken at line next e =
     let first = bind_ok (rule_at at.1 at.0 line) _ next e in
     tests (is_end at.1) line.1 _ _ _ (next.0, next.1.1)
     (first.1 ∙ ap (λ (n : Item × Reached). Ok (n.0, n.1.1)) (ok_is _ next first.2))
-
--- the number of the next line
-pub counts_on : (at : Reached) (line : Line) (next : Item × Reached) → next_at at line ≡ Ok next → min (at.0 + 1) (2 ^ 64 - 1) ≡ next.1.0
-counts_on at line next e =
-    let first = bind_ok (rule_at at.1 at.0 line) (λ x. Ok (x.0, (min (at.0 + 1) (2 ^ 64 - 1), x.1))) next e in
-    ap (λ (n : Item × Reached). n.1.0) (ok_is (first.0.0, (min (at.0 + 1) (2 ^ 64 - 1), first.0.1)) next first.2)

@@ -59,15 +59,15 @@ DrawAgrees g loops f line = Unit {0}
 -- ---- what has to be: all lines
 
 -- the node keeps its rule in the first pending state, of which there is one
-abbrev pub KeepsFirst : Graph → ℕ → List Row → List State → Node → Type 0
-KeepsFirst g k rows [] node = ⊥
-KeepsFirst g k rows (t ∷ pending) node = MayOpen g k rows t node
+abbrev pub MayOpenFirst : Graph → ℕ → List Row → List State → Node → Type 0
+MayOpenFirst g k rows [] node = ⊥
+MayOpenFirst g k rows (t ∷ pending) node = MayOpen g k rows t node
 
 -- the line means what it must
 abbrev pub Agrees : Graph → ℕ → Said → Item → Type 0
 Agrees g loops s (item.Path path) = IfSome (row_by_path s.rows path) (RowHolds g)
 Agrees g loops s (item.Extension list) = RowHolds g (row_by_list s.rows list)
-Agrees g loops s (item.Step node) = KeepsFirst g s.front.lower s.rows.whole s.tree.pending node
+Agrees g loops s (item.Step node) = MayOpenFirst g s.front.lower s.rows.whole s.tree.pending node
 Agrees g loops s item.End = s.tree.pending ≡ []
 Agrees g loops s line = DrawAgrees g loops s.front line
 

@@ -1,5 +1,5 @@
 // The lines of an answer up to `drawn`.
-ghost use Rattle.std.specs.Prelude.{◌≡◌, ◌≢◌, ◌↔◌, ◌<◌, ◌≤◌, [], IfOk, IsTrue, MatchResult, length};
+ghost use Rattle.std.specs.Prelude.{◌≡◌, ◌≢◌, ◌↔◌, ◌<◌, IfOk, IsTrue, MatchResult, length};
 ghost use Rattle.xn_model.specs.Graph.{ends_at};
 ghost use Rattle.xn_graph.specs.Limits.{IsEdge};
 ghost use Rattle.xn_check.specs.FrontFits.{FrontFits};

@@ -1,5 +1,5 @@
 // The tree of an answer, node by node.
-ghost use Rattle.std.specs.Prelude.{◌≡◌, ◌≢◌, ◌↔◌, ◌+◌, ◌-◌, ◌<◌, ◌^◌, [], ◌∷◌, All, IfOk, IsTrue, List, MatchResult, length, map};
+ghost use Rattle.std.specs.Prelude.{◌≡◌, ◌≢◌, ◌↔◌, ◌-◌, ◌<◌, ◌^◌, [], ◌∷◌, All, IfOk, IsTrue, List, MatchResult, length, map};
 ghost use Rattle.std.specs.List.Sorted.{IsStrictlyIncreasing};
 ghost use Rattle.xn_kinds.specs.Bound.{IsBound};
 ghost use Rattle.xn_kinds.specs.Row.{RowHolds};
@@ -8,7 +8,7 @@ ghost use Rattle.xn_kinds.specs.declared.flaws.FlawKind.TheVariants.{TreeShape, 
 ghost use Rattle.xn_kinds.specs.declared.trees.Node.TheVariants.{Leaf};
 ghost use Rattle.xn_tree.specs.Walk.{pending_of};
 ghost use Rattle.xn_check.specs.Judging.{RefusesLine};
-ghost use Rattle.xn_check.specs.Meaning.{KeepsFirst, StepFails, need_of};
+ghost use Rattle.xn_check.specs.Meaning.{MayOpenFirst, StepFails, need_of};
 ghost use Rattle.xn_check.specs.Parts.{IsInRange, tree_of};
 ghost use Rattle.xn_check.specs.TreeSaid.{no_tree, tree_said};
 
@@ -68,7 +68,7 @@ impl TreePart {
         requires range { IsInRange (length rows.now) node.now }
         ensures graph { self.new.walk.graph ≡ self.old.walk.graph }
         ensures said { IfOk result (λ _. tree_of self.new ≡ tree_said (tree_of self.old) (Item.Step node.now)) }
-        ensures judged { MatchResult result (λ _. KeepsFirst self.old.walk.graph lower rows.now (pending_of self.old.walk) node.now)
+        ensures judged { MatchResult result (λ _. MayOpenFirst self.old.walk.graph lower rows.now (pending_of self.old.walk) node.now)
             (RefusesLine number (StepFails self.old.walk.graph lower rows.now (pending_of self.old.walk) self.old.nodes node.now)) }
     {
         if let Node::Leaf { d, parts } = node {
@@ -104,7 +104,7 @@ impl TreePart {
     ) -> Result<(), AnswerErr>
         requires hold { All (RowHolds self.now.walk.graph) rows.now }
         requires range { IsInRange (length rows.now) (Leaf d parts.now) }
-        ensures { MatchResult result (λ _. KeepsFirst self.now.walk.graph lower rows.now (pending_of self.now.walk) (Leaf d parts.now))
+        ensures { MatchResult result (λ _. MayOpenFirst self.now.walk.graph lower rows.now (pending_of self.now.walk) (Leaf d parts.now))
             (RefusesLine number (StepFails self.now.walk.graph lower rows.now (pending_of self.now.walk) self.now.nodes (Leaf d parts.now))) }
     {
         if self.walk.is_finished() {

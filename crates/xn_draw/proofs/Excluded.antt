@@ -1,5 +1,5 @@
 -- A flaw excludes all later ones, and a drawing has none.
-use Rattle.std.proofs.Common.{◌≡◌, ℕ, inl, inr, List, length, refl, sym, ◌∙◌, ap, subst, arith}
+use Rattle.std.proofs.Common.{◌≡◌, ℕ, inl, inr, List, refl, sym, ◌∙◌, ap, subst, arith}
 use Rattle.std.proofs.lemmas.Bool.{cases_order}
 use Rattle.xn_model.specs.Drawing.{IsListedDrawing, drawn_web, order_of}
 use Rattle.xn_model.specs.Graph.{Graph, edges_of}

@@ -1,6 +1,5 @@
 // The test of a drawing: lengths, orders, rotation, crossings, genus.
 ghost use Rattle.std.specs.Prelude.{◌≡◌, ◌≤◌, ◌^◌, length, IfOk, IfErr, MatchResult};
-ghost use Rattle.std.specs.List.{range_with_len};
 ghost use Rattle.xn_map.specs.Listed.{map_of};
 ghost use Rattle.xn_model.specs.Graph.{edges_of};
 ghost use Rattle.xn_model.specs.Drawing.{drawn_web};

@@ -1,5 +1,5 @@
 // How many lists and turns there are.
-ghost use Rattle.std.specs.Prelude.{ℕ, ◌+◌, ◌*◌, ◌≡◌, ◌↔◌, List, length, IsTrue};
+ghost use Rattle.std.specs.Prelude.{◌+◌, ◌*◌, ◌≡◌, ◌↔◌, length, IsTrue};
 ghost use Rattle.xn_model.specs.Lists.{total};
 ghost use Rattle.xn_draw.specs.Flaws.{HasLengths};
 

@@ -1,7 +1,6 @@
 // Where edges touch at a crossing.
-ghost use Rattle.std.specs.Prelude.{◌≡◌, ℕ, ◌+◌, ◌*◌, ◌<◌, ◌≤◌, ◌^◌, ◌↔◌, length, IsTrue, MatchOption};
+ghost use Rattle.std.specs.Prelude.{◌≡◌, ◌+◌, ◌*◌, ◌<◌, ◌≤◌, ◌^◌, ◌↔◌, length, IsTrue, MatchOption};
 ghost use Rattle.xn_model.specs.Lists.{at, total};
-ghost use Rattle.xn_model.specs.Web.{first_segment};
 ghost use Rattle.xn_orders.specs.Entries.{list_of};
 ghost use Rattle.xn_draw.specs.Touches.{IsLeastTouch, NoTouch, RunsOn, TouchesFirst};
 

@@ -1,5 +1,5 @@
 // The planarised graph of orders.
-ghost use Rattle.std.specs.Prelude.{◌≡◌, ℕ, ◌++◌, ◌+◌, ◌<◌, ◌≤◌, ◌^◌, length, map, IfOk, OnOk, All, true};
+ghost use Rattle.std.specs.Prelude.{◌≡◌, ◌++◌, ◌+◌, ◌<◌, ◌≤◌, ◌^◌, length, map, IfOk, OnOk, All, true};
 ghost use Rattle.std.specs.List.{flat_map};
 ghost use Rattle.xn_model.specs.Graph.{ends_at};
 ghost use Rattle.xn_model.specs.Orders.{IsOrders, crossings_of, order_at};

@@ -1,5 +1,5 @@
 -- A row without a flaw holds.
-use Rattle.std.proofs.Common.{◌≡◌, ℕ, ◌-◌, ◌<◌, inl, inr, List, length, refl, arith}
+use Rattle.std.proofs.Common.{ℕ, ◌-◌, inl, inr, List, length, refl, arith}
 use Rattle.std.proofs.lemmas.Bool.{cases_lt}
 use Rattle.xn_model.specs.Evidence.{five_pairs, three_pairs}
 use Rattle.xn_model.specs.Graph.{Graph, HasNoLoop, IsGraph}

@@ -1,5 +1,5 @@
 // The edges of a row: whether they rise in range.
-ghost use Rattle.std.specs.Prelude.{◌≡◌, ◌≤◌, ◌<◌, ◌↔◌, length, IsTrue, MatchOption};
+ghost use Rattle.std.specs.Prelude.{◌<◌, ◌↔◌, length, IsTrue, MatchOption};
 ghost use Rattle.xn_orders.specs.Entries.{IsFirstOf, NoneOf};
 ghost use Rattle.xn_rows.specs.Holding.{IsWrongEdge};
 

@@ -6,12 +6,12 @@ use Rattle.std.proofs.lemmas.Bool.{and_parts, cases_Bool, eq-eqb, eqb-true}
 use Rattle.std.proofs.lemmas.List.{reverse-append}
 use Rattle.std.proofs.lemmas.List.Edits.{length-insert, swap_is}
 use Rattle.std.proofs.lemmas.Map.Steps.{length-le_from_distinct_below}
-use Rattle.xn_model.specs.Graph.{Graph, Independent}
+use Rattle.xn_model.specs.Graph.{Graph}
 use Rattle.xn_model.specs.Lists.{has}
 use Rattle.xn_kinds.specs.State.{State, Crosses, IsState, decide, place}
 use Rattle.xn_tree.specs.Given.{Situation, state_of}
 use Rattle.xn_tree.specs.Steps.{shift, undecide, unplace, value_in}
-use Rattle.xn_tree.specs.Walk.{IsNextChoice, IsPath, MayAll, MayChoose, later, owed, state_after}
+use Rattle.xn_tree.specs.Walk.{IsNextChoice, IsPath, MayAll, owed, state_after}
 use Rattle.xn_tree.specs.declared.walks.Choice.{Choice}
 use Rattle.xn_tree.specs.declared.walks.Choice.TheVariants.{Decided, Placed}
 use Rattle.xn_tree.proofs.Kept.{decided_state, empty_is_state, eqb-flip, placed_state}

@@ -1,5 +1,4 @@
 // The least of two numbers, of which one may be given.
-ghost use Rattle.std.specs.Prelude.{◌≡◌};
 ghost use Rattle.xn_tree.specs.Leaf.{IsSmall};
 ghost use Rattle.xn_tree.specs.Least.{IsChange, IsLesser};
 

@@ -1,9 +1,9 @@
 // The least of what the orders of the rows give to the value of a leaf.
-ghost use Rattle.std.specs.Prelude.{◌≡◌, ◌≢◌, ◌==◌, ◌&&◌, ◌-◌, ◌<◌, ◌≤◌, ◌^◌, length, nat_eq, slice_index, slice_index_or, take};
+ghost use Rattle.std.specs.Prelude.{◌≡◌, ◌≢◌, ◌==◌, ◌&&◌, ◌-◌, ◌<◌, ◌≤◌, ◌^◌, length, nat_eq, slice_index, take};
 ghost use Rattle.std.specs.List.{IsDistinct};
 ghost use Rattle.std.specs.List.Sorted.{IsStrictlyIncreasing};
 ghost use Rattle.xn_model.specs.Lists.{one_if};
-ghost use Rattle.xn_kinds.specs.Bound.{row_at, IsLeastOver};
+ghost use Rattle.xn_kinds.specs.Bound.{IsLeastOver};
 ghost use Rattle.xn_kinds.specs.Row.{orders_of};
 ghost use Rattle.xn_kinds.specs.State.{InBox};
 ghost use Rattle.xn_tree.specs.Leaf.{AddsOrder, AddsRow, AddsTurn, AddsTurns, IsLeaf, IsRowOf, IsSmall, meets, state_in, turn_term, turn_weight, turns_sum};

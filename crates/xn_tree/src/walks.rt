@@ -1,6 +1,5 @@
-ghost use Rattle.std.specs.Prelude.{◌≡◌, ◌↔◌, ◌<◌, ℕ, false, List, [], ◌∷◌, Bool, IfOk, IsTrue, OnErr, length, reverse};
-ghost use Rattle.xn_model.specs.Lists.{has};
-ghost use Rattle.xn_kinds.specs.State.{State, Crosses, empty_state};
+ghost use Rattle.std.specs.Prelude.{◌≡◌, ◌↔◌, ◌<◌, false, List, [], ◌∷◌, IfOk, IsTrue, length, reverse};
+ghost use Rattle.xn_kinds.specs.State.{State, empty_state};
 ghost use Rattle.xn_kinds.specs.declared.trees.Node.TheVariants.{Pair, Place};
 ghost use Rattle.xn_tree.specs.Given.{state_of};
 ghost use Rattle.xn_kinds.specs.Tree.{Fits};

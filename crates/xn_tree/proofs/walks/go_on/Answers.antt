@@ -1,8 +1,8 @@
-use Rattle.std.proofs.Common.{◌≡◌, ◌∷◌, ◌∙◌, ap, refl, sym}
+use Rattle.std.proofs.Common.{◌∙◌, ap, refl, sym}
 use Rattle.std.specs.Prelude.{reverse}
 use Rattle.xn_tree.specs.Given.{state_of}
-use Rattle.xn_tree.specs.Walk.{IsPath, owed}
-use Rattle.xn_tree.proofs.Paths.{pushed, reversed, top_is, top_of}
+use Rattle.xn_tree.specs.Walk.{owed}
+use Rattle.xn_tree.proofs.Paths.{top_is, top_of}
 use Rattle.xn_tree.proofs.walks.go_on.Goals as goal
 
 pub take_back-requires : goal.take_back-requires
