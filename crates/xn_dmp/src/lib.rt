@@ -15,6 +15,7 @@ mod rounds;
 mod sharing;
 #[cfg(test)]
 mod tests;
+mod watching;
 
 pub use embedding::{Attempt, try_embed};
 pub use jams::Jam;

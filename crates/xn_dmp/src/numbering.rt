@@ -1,6 +1,4 @@
 // Numbers of the faces of a map that grows: proposals where to put a path.
-ghost use Rattle.std.specs.Prelude.{◌≤◌};
-
 use crate::rounds::{Rounds, read, write};
 use std::alloc::{AllocError, Global};
 use xn_map::Map;
@@ -12,10 +10,9 @@ pub struct Numbering {
     hits: Vec<u64>,
     /// Hits up to this number are old.
     base: u64,
-    /// The nodes of a face before it is split, and of the two faces that it becomes.
-    before: Rounds,
-    first: Rounds,
-    second: Rounds,
+    /// The nodes of the two faces that the face that was split last has become: with a number of its own, and with the old one.
+    new: Rounds,
+    old: Rounds,
 }
 
 impl Numbering {
@@ -25,9 +22,8 @@ impl Numbering {
             numbers: Vec::new(alloc),
             hits: Vec::new(alloc),
             base: 0,
-            before: Rounds::new(alloc, n)?,
-            first: Rounds::new(alloc, n)?,
-            second: Rounds::new(alloc, n)?,
+            new: Rounds::new(alloc, n)?,
+            old: Rounds::new(alloc, n)?,
         })
     }
 
@@ -43,19 +39,25 @@ impl Numbering {
         Ok(())
     }
 
-    /// Keeps the nodes of the face of a dart, as those before it is split.
-    pub fn keep(&mut self, map: &Map, d: u32) {
-        mark_nodes(map, d, &mut self.before);
-    }
-
-    /// Gives the face of a dart a number of its own, and keeps the nodes of it and of the face on the other side.
-    pub fn split(&mut self, map: &Map, d: u32) -> Result<(), AllocError> {
+    /// Gives the face of a dart a number of its own, the next, which it answers, and keeps the nodes of it and of the face on
+    /// the other side.
+    pub fn split(&mut self, map: &Map, d: u32) -> Result<u32, AllocError> {
         let face = (self.hits.len() as u64 % (1 << 32)) as u32;
         self.hits.push(0)?;
         self.set_face(map, d, face);
-        mark_nodes(map, d, &mut self.first);
-        mark_nodes(map, d ^ 1, &mut self.second);
-        Ok(())
+        mark_nodes(map, d, &mut self.new);
+        mark_nodes(map, d ^ 1, &mut self.old);
+        Ok(face)
+    }
+
+    /// Whether the face with the new number, of the split before, has a corner at each of these nodes.
+    pub fn new_has(&self, nodes: &[u32]) -> bool {
+        all_marked(&self.new, nodes)
+    }
+
+    /// Whether that with the old number has.
+    pub fn old_has(&self, nodes: &[u32]) -> bool {
+        all_marked(&self.old, nodes)
     }
 
     // Numbers the darts of a face.
@@ -70,11 +72,11 @@ impl Numbering {
         }
     }
 
-    /// How many faces have a corner at each of these nodes, and one of them.
-    pub fn common(&mut self, map: &Map, nodes: &[u32]) -> (u32, u32) {
+    /// Faces that have a corner at each of these nodes: two, if there are two.
+    pub fn common(&mut self, map: &Map, nodes: &[u32]) -> (Option<u32>, Option<u32>) {
         let base = self.base;
         self.base = base.saturating_add(nodes.len() as u64);
-        let mut found = (0, 0);
+        let mut found = (None, None);
         for (i, v) in nodes.iter().enumerate() {
             let hits = base.saturating_add(i as u64);
             let least = if i == 0 { 0 } else { hits };
@@ -83,12 +85,11 @@ impl Numbering {
         found
     }
 
-    // Hits the faces at a node that have this many hits: how many there are, and one of them.
-    fn hit(&mut self, map: &Map, v: u32, least: u64, most: u64) -> (u32, u32) {
-        let mut count: u32 = 0;
-        let mut last = 0;
+    // Hits the faces at a node that have this many hits: two of them, if there are two.
+    fn hit(&mut self, map: &Map, v: u32, least: u64, most: u64) -> (Option<u32>, Option<u32>) {
+        let mut found = (None, None);
         let Some(first) = map.dart_of(v) else {
-            return (0, 0)
+            return found
         };
         let mut d = first;
         for _ in 0..2 * map.web().segments() {
@@ -96,15 +97,14 @@ impl Numbering {
             let hits = self.hits_of(face);
             if least <= hits && hits <= most {
                 self.set_hits(face, most.saturating_add(1));
-                count = count.saturating_add(1);
-                last = face;
+                found = (Some(face), found.0);
             }
             d = next_of(map, d);
             if d == first {
-                break;
+                return found;
             }
         }
-        (count, last)
+        found
     }
 
     fn hits_of(&self, face: u32) -> u64 {
@@ -120,20 +120,6 @@ impl Numbering {
             self.hits[face as usize] = hits;
         }
     }
-
-    /// How many faces have a corner at each of these nodes, once a face is split: the two take its place.
-    pub fn recount(&self, faces: u32, nodes: &[u32]) -> u32 {
-        let was = one_if(all_marked(&self.before, nodes));
-        let now = one_if(all_marked(&self.first, nodes)) + one_if(all_marked(&self.second, nodes));
-        faces.saturating_add(now).saturating_sub(was)
-    }
-}
-
-// 1 where it is so, else 0.
-fn one_if(is: bool) -> u32
-    ensures { result ≤ 1 }
-{
-    if is { 1 } else { 0 }
 }
 
 // Whether each of these nodes is marked.

@@ -10,26 +10,33 @@ use crate::growing::Growth;
 use crate::numbering::{Numbering, next_of};
 use crate::paths::Search;
 use crate::rounds::{Rounds, read};
+use crate::watching::{NONE, Watching};
 use slab::Slab;
 use std::alloc::{AllocError, Global};
 use xn_map::Corner;
 
-/// The fragments of what may be placed, each with the number of faces that take it, and what is known of the faces.
+/// The fragments of what may be placed, and what is known of the faces that take them.
 #[derive(Drop)]
 pub struct Proposer {
     numbering: Numbering,
     search: Search,
-    fragments: Slab<Counted>,
+    fragments: Slab<Watcher>,
+    watching: Watching,
+    /// The keys of fragments that no face takes, that one takes, and of all as they came; some are of fragments that are gone.
+    stuck: Vec<u32>,
+    ready: Vec<u32>,
+    waiting: Vec<u32>,
     /// Free segments that stand in no fragment that is kept.
     left: Rounds,
     met: Rounds,
 }
 
-// A fragment, and how many faces have a corner at each contact.
+// A fragment, and the faces that it watches: two that take it, or all where there are fewer.
 #[derive(Drop)]
-struct Counted {
+struct Watcher {
     fragment: Fragment,
-    faces: u32,
+    first: u32,
+    second: u32,
 }
 
 impl Proposer {
@@ -39,11 +46,16 @@ impl Proposer {
             numbering: Numbering::new(alloc, growth.nodes())?,
             search: Search::new(alloc, growth.nodes())?,
             fragments: Slab::new(alloc),
+            watching: Watching::new(alloc),
+            stuck: Vec::new(alloc),
+            ready: Vec::new(alloc),
+            waiting: Vec::new(alloc),
             left: Rounds::new(alloc, growth.segments())?,
             met: Rounds::new(alloc, growth.nodes())?,
         };
         proposer.numbering.push_darts(0)?;
         proposer.numbering.split(growth.map(), 0)?;
+        proposer.watching.push_face()?;
         proposer.keep_rest(alloc, growth, list)?;
         Ok(proposer)
     }
@@ -71,36 +83,104 @@ impl Proposer {
         requires { is_marked growth.now.free s ≡ true }
     {
         let fragment = fragment_of(alloc, growth, &mut self.left, &mut self.met, s)?;
-        let (faces, _) = self
+        self.keep(growth, fragment)
+    }
+
+    // Keeps a fragment, which watches two faces that take it, or as many as there are.
+    fn keep(&mut self, growth: &Growth, fragment: Fragment) -> Result<(), AllocError> {
+        let (first, second) = self
             .numbering
             .common(growth.map(), fragment.contacts.as_slice());
-        self.fragments.insert(Counted { fragment, faces })?;
+        let may_wait = second.is_some() && fragment.contacts.len() > 1;
+        let watcher = Watcher {
+            fragment,
+            first: first.unwrap_or(NONE),
+            second: second.unwrap_or(NONE),
+        };
+        let key = (self.fragments.insert(watcher)? % (1 << 30)) as u32;
+        if self.watching.slots() <= 2 * key as usize {
+            self.watching.push_slots()?;
+        }
+        self.watching.watch(first.unwrap_or(NONE), 2 * key);
+        self.watching.watch(second.unwrap_or(NONE), 2 * key + 1);
+        if first.is_none() {
+            self.stuck.push(key)?;
+        } else if may_wait {
+            self.waiting.push(key)?;
+        } else {
+            self.ready.push(key)?;
+        }
         Ok(())
     }
 
-    /// Places a path of a fragment, as far as that can be: of one that one face takes, or none, if there is one. It answers the
+    /// Places a path of a fragment, as far as that can be: of one that no face takes, or one, if there is one. It answers the
     /// first segment of the fragment.
     pub fn propose(&mut self, alloc: Global, growth: &mut Growth) -> Result<u32, AllocError>
         ensures { Grows growth.old growth.new }
     {
-        let Some(Counted { fragment, .. }) = self.choose() else {
-            return Ok(0)
+        let Some(
+            Watcher {
+                fragment,
+                first,
+                second,
+            },
+        ) = self.choose()?
+        else {
+            return Ok(0);
         };
-        self.place_path(alloc, growth, &fragment)?;
+        let face = if first == NONE { second } else { first };
+        if face != NONE {
+            self.place_path(alloc, growth, &fragment, face)?;
+        }
         self.keep_rest(alloc, growth, fragment.segments.as_slice())?;
         Ok(read(&fragment.segments, 0))
     }
 
-    // Takes out a fragment with one face or none, or else any.
-    fn choose(&mut self) -> Option<Counted> {
-        let mut chosen = None;
-        for (key, counted) in self.fragments.iter() {
-            chosen = Some(key);
-            if counted.faces < 2 {
-                break;
-            }
+    // Takes out a fragment that no face takes, or that one takes, or else any.
+    fn choose(&mut self) -> Result<Option<Watcher>, AllocError> {
+        let stuck = pop_live(&mut self.stuck, &self.fragments);
+        if stuck.is_some() {
+            return Ok(self.take(stuck));
         }
-        self.fragments.try_remove(chosen?)
+        let ready = self.pop_ready()?;
+        if ready.is_some() {
+            return Ok(self.take(ready));
+        }
+        let waiting = pop_live(&mut self.waiting, &self.fragments);
+        Ok(self.take(waiting))
+    }
+
+    // The key of a fragment that is ready. One that two faces take by now waits.
+    fn pop_ready(&mut self) -> Result<Option<u32>, AllocError> {
+        for _ in 0..self.ready.len() {
+            let Some(key) = pop_live(&mut self.ready, &self.fragments) else {
+                return Ok(None)
+            };
+            if !self.may_wait(key) {
+                return Ok(Some(key));
+            }
+            self.waiting.push(key)?;
+        }
+        Ok(None)
+    }
+
+    // Whether two faces take a fragment with at least two contacts.
+    fn may_wait(&self, key: u32) -> bool {
+        match self.fragments.get(key as usize) {
+            Some(watcher) => watcher.first != NONE
+                && watcher.second != NONE
+                && watcher.fragment.contacts.len() > 1,
+            None => false,
+        }
+    }
+
+    // Takes a fragment out, which watches no face then.
+    fn take(&mut self, key: Option<u32>) -> Option<Watcher> {
+        let key = key? % (1 << 30);
+        let watcher = self.fragments.try_remove(key as usize)?;
+        self.watching.leave(watcher.first, 2 * key);
+        self.watching.leave(watcher.second, 2 * key + 1);
+        Some(watcher)
     }
 
     // Places a path of a fragment in a face, as far as that can be.
@@ -109,21 +189,17 @@ impl Proposer {
         alloc: Global,
         growth: &mut Growth,
         fragment: &Fragment,
+        face: u32,
     ) -> Result<(), AllocError>
         ensures { Grows growth.old growth.new }
     {
-        let (count, face) = self
-            .numbering
-            .common(growth.map(), fragment.contacts.as_slice());
-        if count == 0 {
-            return Ok(());
-        }
         let path = self.search.path(alloc, growth, fragment)?;
-        let start = self.start(growth, read(&path, 0), face);
+        let start = growth.count() + read(&path, 0) % 2;
         self.place_darts(growth, &path, face)?;
         if fragment.contacts.len() > 1 {
-            self.numbering.split(growth.map(), start)?;
-            self.recount();
+            let new = self.numbering.split(growth.map(), start)?;
+            self.watching.push_face()?;
+            self.update(growth, face, new)?;
         }
         Ok(())
     }
@@ -163,14 +239,6 @@ impl Proposer {
         Ok(true)
     }
 
-    // The number that the first dart of a path will have, where the nodes of the face are kept.
-    fn start(&mut self, growth: &Growth, d: u32, face: u32) -> u32 {
-        if let Some(Corner::After(c)) = self.corner(growth, growth.head(d ^ 1), face) {
-            self.numbering.keep(growth.map(), next_of(growth.map(), c));
-        }
-        growth.count() + d % 2
-    }
-
     // A corner of a node in a face.
     fn corner(&self, growth: &Growth, v: u32, face: u32) -> Option<Corner> {
         let map = growth.map();
@@ -191,15 +259,58 @@ impl Proposer {
         None
     }
 
-    // Counts the faces of each kept fragment again, once a face is split.
-    fn recount(&mut self) {
-        for key in 0..self.fragments.capacity() {
-            if let Some(counted) = self.fragments.get_mut(key) {
-                counted.faces = self
-                    .numbering
-                    .recount(counted.faces, counted.fragment.contacts.as_slice());
+    // The fragments that watched a face, before it was split, watch faces that take them still.
+    fn update(&mut self, growth: &Growth, old: u32, new: u32) -> Result<(), AllocError> {
+        let mut slot = self.watching.first(old);
+        for _ in 0..self.watching.slots() {
+            if slot == NONE {
+                break;
             }
+            let next = self.watching.after(slot);
+            self.look(growth, slot, old, new)?;
+            slot = next;
         }
+        Ok(())
+    }
+
+    // A fragment looks which of the two faces takes it, and else for another that does.
+    fn look(&mut self, growth: &Growth, slot: u32, old: u32, new: u32) -> Result<(), AllocError> {
+        let Some(watcher) = self.fragments.get_mut(slot as usize / 2) else {
+            return Ok(())
+        };
+        let nodes = watcher.fragment.contacts.as_slice();
+        let other = if slot % 2 == 0 {
+            watcher.second
+        } else {
+            watcher.first
+        };
+        if self.numbering.old_has(nodes) {
+            if other == NONE && self.numbering.new_has(nodes) {
+                self.watching.watch(new, slot ^ 1);
+                set_face(watcher, slot ^ 1, new);
+            }
+            return Ok(());
+        }
+        self.watching.leave(old, slot);
+        let found = if self.numbering.new_has(nodes) {
+            new
+        } else {
+            let (first, second) = self.numbering.common(growth.map(), nodes);
+            let one = first.unwrap_or(NONE);
+            if one == other {
+                second.unwrap_or(NONE)
+            } else {
+                one
+            }
+        };
+        self.watching.watch(found, slot);
+        set_face(watcher, slot, found);
+        if found == NONE && other == NONE {
+            self.stuck.push(slot / 2)?;
+        } else if found == NONE {
+            self.ready.push(slot / 2)?;
+        }
+        Ok(())
     }
 
     /// The segments of the fragment of a free segment, where no face takes it. The placed segments rise.
@@ -215,4 +326,24 @@ impl Proposer {
     {
         stuck_fragment(alloc, growth, &mut self.left, &mut self.met, start)
     }
+}
+
+// The face that a slot of a fragment watches is another.
+fn set_face(watcher: &mut Watcher, slot: u32, face: u32) {
+    if slot % 2 == 0 {
+        watcher.first = face;
+    } else {
+        watcher.second = face;
+    }
+}
+
+// Takes keys out up to one of a fragment that is there.
+fn pop_live(keys: &mut Vec<u32>, fragments: &Slab<Watcher>) -> Option<u32> {
+    for _ in 0..keys.len() {
+        let key = keys.pop()?;
+        if fragments.get(key as usize).is_some() {
+            return Some(key);
+        }
+    }
+    None
 }

@@ -53,10 +53,15 @@ fn clear(list: &mut [u32]) {
 
 /// The entry at a place, or 0 where there is none.
 pub fn read(list: &[u32], i: u32) -> u32 {
+    read_or(list, i, 0)
+}
+
+/// The entry at a place, or a default where there is none.
+pub fn read_or(list: &[u32], i: u32, default: u32) -> u32 {
     if (i as usize) < list.len() {
         list[i as usize]
     } else {
-        0
+        default
     }
 }
 

@@ -3,8 +3,11 @@ use Rattle.xn_model.specs.Graph.{Graph}
 use Rattle.xn_model.specs.Lists.{at}
 use Rattle.xn_map.specs.Marks.{is_marked}
 use Rattle.xn_dmp.proofs.Placing.{few_more}
-use Rattle.xn_dmp.proofs.Turning.{all_placed, embeds_next, next_at}
+use Rattle.xn_dmp.proofs.Turning.{all_placed, embeds_next, embeds_start, next_at}
 use Rattle.xn_dmp.proofs.embedding.embed.Goals as goal
+
+pub loop-i-init : goal.loop-i-init
+loop-i-init c = embeds_start c.args.web.now c.args.list.now c.in_ok-growth.growth c.in_ok-growth.ensures
 
 pub turn-requires : goal.turn-requires
 turn-requires c =
