@@ -1,11 +1,11 @@
 -- What goes over to neighbours goes along each cycle; so cycles through a common segment give one through any two of theirs.
-use Rattle.std.proofs.Common.{◌≡◌, ◌≢◌, ℕ, zero, suc, ◌+◌, ◌*◌, ◌<◌, ◌≤◌, ◌⊎◌, inl, inr, eqb, List, [], ◌∷◌, ◌++◌, length, refl, sym, ◌∙◌, ap, subst, arith}
+use Rattle.std.proofs.Common.{◌≡◌, ◌≢◌, ℕ, ◌*◌, ◌<◌, inl, inr, List, [], ◌∷◌, ◌++◌, length, refl, sym, ◌∙◌, ap, subst}
 use Rattle.std.proofs.lemmas.List.{append_assoc, append-nil}
-use Rattle.xn_model.specs.Map.{WalksTo, reverse_of, tail_of}
+use Rattle.xn_model.specs.Map.{reverse_of, tail_of}
 use Rattle.xn_model.proofs.Darts.{reverse-reverse}
-use Rattle.xn_blocks.proofs.Members.{In, in_here, in_later, in_cases, in_none, in_front, in_back, in_parts, distinct_more, first_apart}
+use Rattle.xn_blocks.proofs.Members.{In, in_here, in_later, in_cases, in_none, in_back, in_parts, distinct_more, first_apart}
 use Rattle.xn_blocks.proofs.Paths.{trail, IsPath}
-use Rattle.xn_blocks.proofs.Arcs.{head, tails, tails_in, end_in, trail_cases, end_apart, start_in, rest_path, path_join, path_one, path_none, Uses}
+use Rattle.xn_blocks.proofs.Arcs.{head, tails, tails_in, end_in, trail_cases, end_apart, start_in, rest_path, path_join, path_one, path_none}
 use Rattle.xn_blocks.proofs.Rounds.{dart_nodes, trail_front, trail_later}
 use Rattle.xn_blocks.proofs.Step.{IsRound, OnRound, round_at, step}
 use Rattle.xn_blocks.proofs.Neighbours.{AreNeighbours, neighbour_before}

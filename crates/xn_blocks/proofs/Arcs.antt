@@ -1,10 +1,10 @@
 -- Paths put together, turned and cut.
-use Rattle.std.proofs.Common.{◌≡◌, ◌≢◌, ℕ, zero, suc, ◌+◌, ◌*◌, ◌<◌, ◌≤◌, ◌⊎◌, inl, inr, Bool, true, false, eqb, List, [], ◌∷◌, ◌++◌, length, map, refl, sym, ◌∙◌, ap, subst, arith}
+use Rattle.std.proofs.Common.{◌≡◌, ◌≢◌, ℕ, ◌*◌, ◌<◌, ◌⊎◌, inl, inr, eqb, List, [], ◌∷◌, ◌++◌, length, map, refl, sym, ◌∙◌, ap, subst}
 use Rattle.std.specs.List.{IsDistinct}
 use Rattle.std.proofs.lemmas.Map.Keys.{IsDistinct-tail}
 use Rattle.xn_model.specs.Map.{WalksTo, reverse_of, tail_of}
 use Rattle.xn_model.proofs.Darts.{reverse-reverse, reverse_below}
-use Rattle.xn_blocks.proofs.Members.{In, in_here, in_later, in_cases, in_none, decide_in, in_front, in_back, in_parts, distinct_more, first_apart}
+use Rattle.xn_blocks.proofs.Members.{In, in_here, in_later, in_cases, in_none, in_front, in_back, in_parts, distinct_more, first_apart}
 use Rattle.xn_blocks.proofs.Paths.{trail, IsPath}
 
 pub one_distinct : (v : ℕ) → IsDistinct eqb (v ∷ [])

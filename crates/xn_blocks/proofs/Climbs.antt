@@ -1,12 +1,12 @@
 -- Ways up in a forest, and walks that avoid a node.
-use Rattle.std.proofs.Common.{◌≡◌, ◌≢◌, ℕ, zero, suc, ◌+◌, ◌-◌, ◌*◌, ◌/◌, ◌<◌, ◌≤◌, ◌⊎◌, inl, inr, eqb, List, [], ◌∷◌, ◌++◌, length, refl, sym, ◌∙◌, ap, subst, arith}
+use Rattle.std.proofs.Common.{◌≡◌, ◌≢◌, ℕ, zero, suc, ◌+◌, ◌-◌, ◌*◌, ◌/◌, ◌<◌, ◌≤◌, ◌⊎◌, inl, inr, List, [], ◌∷◌, ◌++◌, length, refl, sym, ◌∙◌, ap, subst, arith}
 use Rattle.std.proofs.lemmas.Bool.{cases_eq, cases_lt}
 use Rattle.xn_model.specs.Cycles.{AreInOneBlock}
-use Rattle.xn_model.specs.Graph.{EndsIn, Graph, HasNoLoop}
+use Rattle.xn_model.specs.Graph.{Graph, HasNoLoop}
 use Rattle.xn_model.specs.Map.{WalksTo, reverse_of, tail_of}
-use Rattle.xn_model.specs.Permutation.{Reaches, iterate}
+use Rattle.xn_model.specs.Permutation.{iterate}
 use Rattle.xn_model.proofs.Darts.{reverse-reverse, reverse_below}
-use Rattle.xn_ring.proofs.Orbits.{iterate-add, iterate-step, reaches_step, reaches_trans}
+use Rattle.xn_ring.proofs.Orbits.{iterate-add, iterate-step, reaches_step}
 use Rattle.xn_genus.proofs.Counts.{stays_alone}
 use Rattle.xn_blocks.specs.Search.{Above, IsSearchForest}
 use Rattle.xn_blocks.proofs.Members.{In, in_here, in_later, in_cases, in_none}

@@ -1,9 +1,9 @@
 -- Cut nodes, by the keys of the darts at a node; and lists of all numbers of which something is so.
-use Rattle.std.proofs.Common.{◌≡◌, ◌≢◌, ℕ, zero, suc, ◌+◌, ◌*◌, ◌/◌, ◌<◌, ◌≤◌, ◌⊎◌, ◌↔◌, inl, inr, true, eqb, List, [], ◌∷◌, ◌++◌, length, refl, sym, ◌∙◌, ap, subst, arith}
-use Rattle.std.proofs.lemmas.Bool.{cases_eq, cases_lt, eq-eqb, eqb-true, or_cases, or_left, or_right}
+use Rattle.std.proofs.Common.{◌≡◌, ◌≢◌, ℕ, ◌+◌, ◌*◌, ◌/◌, ◌<◌, ◌⊎◌, inl, inr, true, eqb, List, [], ◌∷◌, ◌++◌, length, sym, ◌∙◌, ap, subst, arith}
+use Rattle.std.proofs.lemmas.Bool.{cases_eq, eq-eqb, eqb-true, or_cases, or_left, or_right}
 use Rattle.xn_model.specs.Cycles.{IsCut}
 use Rattle.xn_model.specs.Graph.{Graph, ends_at, touches}
-use Rattle.xn_model.specs.Lists.{at, has}
+use Rattle.xn_model.specs.Lists.{at}
 use Rattle.xn_model.specs.Map.{tail_of}
 use Rattle.xn_model.proofs.Darts.{cases_dart, tail-even, tail-odd}
 use Rattle.xn_graph.specs.Stars.{darts_of}

@@ -1,15 +1,14 @@
 -- A cycle as a list of darts is a dart with a path back.
-use Rattle.std.proofs.Common.{◌≡◌, ◌≢◌, ℕ, zero, suc, ◌+◌, ◌*◌, ◌/◌, ◌<◌, ◌≤◌, ◌⊎◌, inl, inr, eqb, List, [], ◌∷◌, length, map, refl, sym, ◌∙◌, ap, subst, arith}
+use Rattle.std.proofs.Common.{◌≡◌, ◌≢◌, ℕ, ◌*◌, ◌/◌, ◌<◌, ◌≤◌, ◌⊎◌, inl, inr, eqb, List, [], ◌∷◌, length, refl, sym, ◌∙◌, ap, subst, arith}
 use Rattle.std.specs.List.{IsDistinct}
-use Rattle.std.proofs.lemmas.Bool.{cases_eq}
 use Rattle.std.proofs.lemmas.Map.Keys.{IsDistinct-tail}
 use Rattle.xn_model.specs.Cycles.{AreInOneBlock, IsCycle, ShareCycle, segments_along}
-use Rattle.xn_model.specs.Graph.{HasNoLoop, ends_at}
-use Rattle.xn_model.specs.Map.{WalksTo, reverse_of, tail_of}
+use Rattle.xn_model.specs.Graph.{HasNoLoop}
+use Rattle.xn_model.specs.Map.{reverse_of, tail_of}
 use Rattle.xn_model.proofs.Darts.{cases_dart, reverse-even, reverse-odd, reverse-reverse, tail-even, tail-odd}
 use Rattle.xn_blocks.proofs.Members.{In, in_here, in_later, in_cases, in_none, distinct_more, first_apart}
 use Rattle.xn_blocks.proofs.Paths.{trail, IsPath}
-use Rattle.xn_blocks.proofs.Arcs.{Uses, end_apart, head, none_distinct, one_distinct, start_in, tails, tails_in, trail_cases}
+use Rattle.xn_blocks.proofs.Arcs.{Uses, end_apart, head, none_distinct, one_distinct, tails, tails_in, trail_cases}
 use Rattle.xn_blocks.proofs.Rounds.{dart_nodes}
 use Rattle.xn_blocks.proofs.Step.{IsRound, OnRound}
 use Rattle.xn_blocks.proofs.AlongCycles.{rounds_join}

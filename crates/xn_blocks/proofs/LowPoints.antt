@@ -1,19 +1,17 @@
 -- Low points, and the classes that they give.
-use Rattle.std.proofs.Common.{◌≡◌, ◌≢◌, ℕ, zero, suc, ◌+◌, ◌-◌, ◌*◌, ◌<◌, ◌≤◌, ◌⊎◌, ◌↔◌, inl, inr, List, length, min, set, refl, sym, ◌∙◌, ap, subst, ltb, arith}
+use Rattle.std.proofs.Common.{◌≡◌, ◌≢◌, ℕ, zero, suc, ◌+◌, ◌*◌, ◌<◌, ◌≤◌, ◌⊎◌, inl, inr, List, length, min, set, refl, sym, ◌∙◌, ap, subst, ltb, arith}
 use Rattle.std.proofs.lemmas.Bool.{cases_eq, cases_lt, cond-false, cond-true, le-ltb, lt-ltb}
 use Rattle.std.proofs.lemmas.List.{get_or-set_other, get_or-set_same, length-set}
-use Rattle.xn_model.specs.Cycles.{AreInOneBlock}
 use Rattle.xn_model.specs.Graph.{EndsIn, Graph, HasNoLoop, ends_at}
 use Rattle.xn_model.specs.Lists.{at}
 use Rattle.xn_model.specs.Map.{reverse_of, tail_of}
 use Rattle.xn_model.specs.Permutation.{iterate}
-use Rattle.xn_model.proofs.Darts.{reverse_below}
 use Rattle.xn_ring.proofs.Orbits.{reaches_step, reaches_trans}
 use Rattle.xn_genus.proofs.Compress.{tail_in}
 use Rattle.xn_graph.proofs.Ends.{EndsIn-at}
-use Rattle.xn_blocks.specs.Growth.{IsFound, IsWhole, Lists}
+use Rattle.xn_blocks.specs.Growth.{IsWhole, Lists}
 use Rattle.xn_blocks.specs.Lows.{AreAllClassed, AreClassed, AreHandedUp, AreLowPoints, AreNoted, GoesDownTo, HaveClasses, IsClassAt, IsSomeWhole, NameBlocks, lowered}
-use Rattle.xn_blocks.specs.Search.{Above, AreNodeClasses, IsSearchForest, PassesParent, later_end}
+use Rattle.xn_blocks.specs.Search.{Above, AreNodeClasses, later_end}
 use Rattle.xn_blocks.proofs.Climbs.{above_most}
 use Rattle.xn_blocks.proofs.SearchSteps.{forest_from}
 use Rattle.xn_blocks.proofs.Gates.{key_from_block}

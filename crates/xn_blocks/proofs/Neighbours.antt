@@ -1,13 +1,13 @@
 -- Two segments at a node whose far ends are joined without it lie on one cycle, and each dart of a cycle has such a neighbour.
-use Rattle.std.proofs.Common.{◌≡◌, ◌≢◌, ℕ, zero, suc, ◌+◌, ◌*◌, ◌<◌, ◌≤◌, ◌⊎◌, inl, inr, eqb, List, [], ◌∷◌, ◌++◌, length, refl, sym, ◌∙◌, ap, subst, arith}
+use Rattle.std.proofs.Common.{◌≡◌, ◌≢◌, ℕ, ◌*◌, ◌<◌, inl, inr, List, [], ◌∷◌, ◌++◌, length, refl, sym, ◌∙◌, ap, subst}
 use Rattle.std.proofs.lemmas.Bool.{cases_eq}
-use Rattle.xn_model.specs.Map.{WalksTo, reverse_of, tail_of}
+use Rattle.xn_model.specs.Map.{reverse_of, tail_of}
 use Rattle.xn_model.proofs.Darts.{reverse-reverse, reverse_below, reverse_apart}
-use Rattle.xn_blocks.proofs.Members.{In, in_here, in_later, in_cases, in_none, in_front, in_back, in_parts, distinct_more, first_apart}
+use Rattle.xn_blocks.proofs.Members.{In, in_here, in_later, in_cases, in_none, in_back, in_parts, distinct_more, first_apart}
 use Rattle.xn_blocks.proofs.Paths.{trail, IsPath}
-use Rattle.xn_blocks.proofs.Arcs.{head, tails, tails_in, end_in, trail_cases, end_apart, start_in, rest_path, path_join, path_one, path_none, Uses}
+use Rattle.xn_blocks.proofs.Arcs.{head, tails, tails_in, end_apart, rest_path, path_join, path_one, path_none}
 use Rattle.xn_blocks.proofs.Rounds.{dart_nodes}
-use Rattle.xn_blocks.proofs.Step.{IsRound, OnRound, step}
+use Rattle.xn_blocks.proofs.Step.{IsRound, OnRound}
 
 -- s and t are darts of two segments at one node, and a path without that node joins their heads
 pub record AreNeighbours (ends : List (ℕ × ℕ)) (s t : ℕ) : Type 0 where

@@ -1,22 +1,15 @@
 -- Segments whose later ends have one class are in one block.
-use Rattle.std.proofs.Common.{◌≡◌, ◌≢◌, ℕ, zero, suc, ◌+◌, ◌*◌, ◌/◌, ◌<◌, ◌≤◌, ◌⊎◌, ◌↔◌, inl, inr, List, [], ◌∷◌, length, refl, sym, ◌∙◌, ap, subst, ltb, arith}
-use Rattle.std.proofs.lemmas.Bool.{cases_eq, cases_lt, cond-true, cond-false, lt-ltb, le-ltb}
-use Rattle.xn_model.specs.Cycles.{AreInOneBlock, ShareCycle}
-use Rattle.xn_model.specs.Graph.{EndsIn, Graph, HasNoLoop, ends_at}
-use Rattle.xn_model.specs.Map.{WalksTo, reverse_of, tail_of}
-use Rattle.xn_model.specs.Permutation.{iterate}
-use Rattle.xn_model.proofs.Darts.{cases_dart, reverse-even, reverse-odd, reverse-reverse, reverse_below, tail-even, tail-odd}
-use Rattle.xn_ring.proofs.Orbits.{iterate-step, reaches_step, reaches_trans}
-use Rattle.xn_genus.proofs.Compress.{tail_in}
+use Rattle.std.proofs.Common.{◌≡◌, ◌≢◌, ℕ, zero, suc, ◌*◌, ◌/◌, ◌<◌, ◌≤◌, ◌⊎◌, inl, inr, List, length, sym, ◌∙◌, ap, subst, arith}
+use Rattle.xn_model.specs.Cycles.{AreInOneBlock}
+use Rattle.xn_model.specs.Graph.{Graph, ends_at}
+use Rattle.xn_model.specs.Map.{reverse_of, tail_of}
+use Rattle.xn_model.proofs.Darts.{reverse-reverse, reverse_below}
+use Rattle.xn_ring.proofs.Orbits.{reaches_step}
 use Rattle.xn_genus.proofs.Counts.{stays_alone}
-use Rattle.xn_blocks.specs.Search.{Above, AreNodeClasses, IsSearchForest, LeadsBetween, PassesParent, later_end}
-use Rattle.xn_blocks.proofs.Members.{In, in_here, in_later}
-use Rattle.xn_blocks.proofs.Paths.{trail}
-use Rattle.xn_blocks.proofs.Arcs.{head, start_in}
-use Rattle.xn_blocks.proofs.Neighbours.{AreNeighbours}
-use Rattle.xn_blocks.proofs.AlongCycles.{carried}
-use Rattle.xn_blocks.proofs.CycleRounds.{in_one_block_sym, in_one_block_trans, no_dart_loops, reverse_half, round_of_shared}
-use Rattle.xn_blocks.proofs.Climbs.{GoesRound, above_in, above_less, above_most, both_above, child_towards, climb, decide_above, first_step, goes_along, goes_back, goes_on, in_block_at}
+use Rattle.xn_blocks.specs.Search.{Above, PassesParent, later_end}
+use Rattle.xn_blocks.proofs.Arcs.{head}
+use Rattle.xn_blocks.proofs.CycleRounds.{in_one_block_sym, in_one_block_trans, reverse_half}
+use Rattle.xn_blocks.proofs.Climbs.{GoesRound, both_above, goes_along, goes_back, goes_on, in_block_at}
 use Rattle.xn_blocks.proofs.Searched.{IsSearched}
 use Rattle.xn_blocks.proofs.Searched as all
 

@@ -1,13 +1,10 @@
 -- Segments that lie on a common cycle.
-use Rattle.std.proofs.Common.{◌≡◌, ◌≢◌, ℕ, zero, suc, ◌+◌, ◌*◌, ◌<◌, ◌≤◌, ◌⊎◌, inl, inr, Bool, true, false, eqb, List, [], ◌∷◌, ◌++◌, length, refl, sym, ◌∙◌, ap, subst, arith}
-use Rattle.std.specs.List.{IsDistinct}
+use Rattle.std.proofs.Common.{◌≡◌, ℕ, ◌*◌, ◌<◌, inl, inr, List, [], ◌∷◌, ◌++◌, length, refl, sym, ◌∙◌, ap, subst, arith}
 use Rattle.std.proofs.lemmas.Bool.{cases_eq}
-use Rattle.std.proofs.lemmas.Map.Keys.{IsDistinct-tail}
-use Rattle.xn_model.specs.Map.{WalksTo, reverse_of, tail_of}
-use Rattle.xn_model.proofs.Darts.{reverse-reverse, reverse_below, reverse_apart}
-use Rattle.xn_blocks.proofs.Members.{In, in_here, in_later, in_cases, in_none, decide_in, in_front, in_back, in_parts, distinct_more, first_apart}
+use Rattle.xn_model.specs.Map.{WalksTo, tail_of}
+use Rattle.xn_blocks.proofs.Members.{In, in_here, in_later, in_cases, in_none, decide_in, distinct_more, first_apart}
 use Rattle.xn_blocks.proofs.Paths.{trail, IsPath}
-use Rattle.xn_blocks.proofs.Arcs.{tails, head, tails_in, end_in, trail_cases, end_apart, start_in, rest_path, trail_parts, path_join, path_one, path_none, Uses, path_turned}
+use Rattle.xn_blocks.proofs.Arcs.{tails, head, trail_cases, start_in, rest_path, path_none}
 
 module _ (ends : List (ℕ × ℕ)) where
   -- a path cut at a node

@@ -1,23 +1,19 @@
 -- The steps of a search in depth, and its end.
-use Rattle.std.proofs.Common.{◌≡◌, ◌≢◌, ℕ, zero, suc, ◌+◌, ◌-◌, ◌*◌, ◌<◌, ◌≤◌, ◌⊎◌, inl, inr, true, eqb, List, [], ◌∷◌, ◌++◌, length, set, refl, sym, ◌∙◌, ap, subst, arith, mul-le-mul_left}
+use Rattle.std.proofs.Common.{◌≡◌, ◌≢◌, ℕ, zero, suc, ◌+◌, ◌-◌, ◌*◌, ◌<◌, ◌≤◌, ◌⊎◌, inl, inr, List, length, refl, sym, ◌∙◌, ap, subst, arith, mul-le-mul_left}
 use Rattle.std.specs.Prelude.{Option, None, Some}
-use Rattle.std.specs.List.{list_any}
-use Rattle.std.proofs.lemmas.Bool.{cases_eq, cases_lt, eq-eqb, or_left, or_right}
-use Rattle.std.proofs.lemmas.List.{get_or-set_other, get_or-set_same, get_or_append_left, get_or_at, length-append, length-set}
-use Rattle.std.proofs.lemmas.Map.Steps.{le-length_from_below}
+use Rattle.std.proofs.lemmas.Bool.{cases_eq}
+use Rattle.std.proofs.lemmas.List.{get_or-set_other, get_or-set_same, length-set}
 use Rattle.xn_model.specs.Graph.{EndsIn, Graph}
 use Rattle.xn_model.specs.Lists.{at}
 use Rattle.xn_model.specs.Map.{reverse_of, tail_of}
-use Rattle.xn_model.specs.Permutation.{iterate}
 use Rattle.xn_graph.specs.Stars.{darts_of}
 use Rattle.xn_model.proofs.Darts.{reverse-reverse, reverse_below}
-use Rattle.xn_ring.proofs.Orbits.{iterate-step}
 use Rattle.xn_genus.proofs.Compress.{tail_in}
 use Rattle.xn_genus.proofs.Counts.{stays_alone}
 use Rattle.xn_graph.proofs.DartsOf.{darts_before-le, darts_before-next, darts_of-at, darts_of-place}
 use Rattle.xn_blocks.specs.Search.{Above, AreComparable, IsLinked, IsSearchForest}
 use Rattle.xn_blocks.proofs.Climbs.{both_above, first_step}
-use Rattle.xn_blocks.specs.Growth.{AllDone, AreFound, Exploring, Explores, GoesOn, GoesOnAt, HasNone, IsAt, IsDone, IsFound, KeepsFound, KeepsWith, Lists, still_left, far_end, sum_below, with_dart, with_node, work_left}
+use Rattle.xn_blocks.specs.Growth.{AllDone, AreFound, Exploring, GoesOn, GoesOnAt, HasNone, IsAt, IsDone, IsFound, Lists, still_left, far_end, sum_below, with_dart, with_node}
 use Rattle.xn_blocks.proofs.Growing.{at_child, found_now, keeps_found, parent_now}
 
 -- ---- what is left

@@ -1,6 +1,6 @@
 -- Neighbours at a node: what lies on a cycle with the one lies on a cycle with the other.
-use Rattle.std.proofs.Common.{◌≡◌, ◌≢◌, ℕ, zero, suc, ◌+◌, ◌*◌, ◌<◌, ◌≤◌, ◌⊎◌, inl, inr, eqb, List, [], ◌∷◌, ◌++◌, length, refl, sym, ◌∙◌, ap, subst, arith}
-use Rattle.xn_model.specs.Map.{WalksTo, reverse_of, tail_of}
+use Rattle.std.proofs.Common.{◌≡◌, ◌≢◌, ℕ, ◌*◌, ◌<◌, inl, inr, List, [], ◌∷◌, ◌++◌, length, refl, sym, ◌∙◌, ap, subst}
+use Rattle.xn_model.specs.Map.{reverse_of, tail_of}
 use Rattle.xn_model.proofs.Darts.{reverse-reverse, reverse_below, reverse_apart}
 use Rattle.xn_blocks.proofs.Members.{In, in_here, in_later, in_cases, in_none, decide_in, in_front, in_back, in_parts}
 use Rattle.xn_blocks.proofs.Paths.{trail, IsPath}

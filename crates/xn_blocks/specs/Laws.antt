@@ -1,8 +1,8 @@
 -- What holds of blocks.
-use Rattle.std.specs.Prelude.{◌≡◌, ℕ, ◌<◌, ◌≢◌, ◌*◌, ◌/◌, true, List, length}
+use Rattle.std.specs.Prelude.{◌≡◌, ℕ, ◌<◌, List, length}
 use Rattle.xn_model.specs.Cycles.{AreInOneBlock}
 use Rattle.xn_model.specs.Graph.{Graph, HasNoLoop}
-use Rattle.xn_blocks.specs.Blocks.{IsPartition, ListedBlocks, AreBlocks, StandsIn}
+use Rattle.xn_blocks.specs.Blocks.{ListedBlocks, AreBlocks, StandsIn}
 
 -- R is an equivalence
 pub record IsEquivalence (R : ℕ → ℕ → Type 0) : Type 0 where

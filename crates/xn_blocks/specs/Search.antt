@@ -1,6 +1,6 @@
 -- Forests of a search in depth, the classes of their nodes, and the classes of segments.
-use Rattle.std.specs.Prelude.{◌≡◌, ◌≢◌, ℕ, ◌*◌, ◌<◌, ◌⊎◌, ◌↔◌, List, length, nat_lt, if◌then◌else◌}
-use Rattle.xn_model.specs.Graph.{Graph, ends_at}
+use Rattle.std.specs.Prelude.{◌≡◌, ◌≢◌, ℕ, ◌*◌, ◌<◌, ◌⊎◌, List, length, nat_lt, if◌then◌else◌}
+use Rattle.xn_model.specs.Graph.{Graph}
 use Rattle.xn_model.specs.Map.{reverse_of, tail_of}
 use Rattle.xn_model.specs.Permutation.{Reaches}
 

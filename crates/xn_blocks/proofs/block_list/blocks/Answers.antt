@@ -1,4 +1,4 @@
-use Rattle.std.proofs.Common.{length, sym, subst}
+use Rattle.std.proofs.Common.{length, subst}
 use Rattle.xn_list.specs.Lists.{lists_of}
 use Rattle.xn_model.specs.Cycles.{AreInOneBlock, IsCut}
 use Rattle.xn_blocks.specs.Blocks.{IsPartition, ListsAll}

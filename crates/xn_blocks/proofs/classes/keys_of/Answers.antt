@@ -1,4 +1,4 @@
-use Rattle.std.proofs.Common.{List, length, sym, subst}
+use Rattle.std.proofs.Common.{length, sym, subst}
 use Rattle.std.proofs.lemmas.Result.{IfOk-weaker}
 use Rattle.xn_blocks.specs.Growth.{lists_in}
 use Rattle.xn_blocks.specs.Lows.{AreAllClassed, AreLowPoints, HaveClasses}

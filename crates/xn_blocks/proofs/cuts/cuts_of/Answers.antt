@@ -1,4 +1,3 @@
-use Rattle.std.proofs.Common.{subst}
 use Rattle.std.proofs.lemmas.Bool.{both_ways}
 use Rattle.xn_model.specs.Cycles.{IsCut}
 use Rattle.xn_blocks.proofs.CutNodes.{lists_no, lists_yes}

@@ -1,8 +1,8 @@
-use Rattle.std.proofs.Common.{◌≡◌, ℕ, ◌<◌, ◌≤◌, length, refl, sym, ◌∙◌, ap, subst, arith}
+use Rattle.std.proofs.Common.{◌≡◌, length, sym, ◌∙◌, ap, subst, arith}
 use Rattle.std.proofs.lemmas.List.{get_or_read}
 use Rattle.xn_model.specs.Lists.{at}
 use Rattle.xn_graph.specs.Stars.{darts_of}
-use Rattle.xn_blocks.specs.Growth.{GoesOnAt, IsDone, lists_in}
+use Rattle.xn_blocks.specs.Growth.{GoesOnAt, lists_in}
 use Rattle.xn_blocks.proofs.SearchSteps.{all_done, goes_up}
 use Rattle.xn_blocks.proofs.forest.Forest.go_on.Goals as goal
 

@@ -1,8 +1,8 @@
-use Rattle.std.proofs.Common.{◌≡◌, ℕ, ◌+◌, ◌<◌, sym, subst, arith}
+use Rattle.std.proofs.Common.{◌≡◌, ◌<◌, arith}
 use Rattle.std.proofs.lemmas.List.{get_or_read}
 use Rattle.xn_model.specs.Lists.{at}
-use Rattle.xn_blocks.specs.Growth.{AllDone, AreFound, IsFound, IsOver, lists_in}
-use Rattle.xn_blocks.proofs.SearchSteps.{all_and, found_at_first, none_found}
+use Rattle.xn_blocks.specs.Growth.{IsFound, lists_in}
+use Rattle.xn_blocks.proofs.SearchSteps.{all_and}
 use Rattle.xn_blocks.proofs.forest.Forest.of.Goals.{then-index-nodes+in_ok-explore, else-index-nodes}
 use Rattle.xn_blocks.proofs.forest.Forest.of.Goals as goal
 

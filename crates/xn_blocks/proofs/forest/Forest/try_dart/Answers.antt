@@ -1,11 +1,10 @@
-use Rattle.std.proofs.Common.{◌≡◌, ℕ, ◌*◌, ◌^◌, ◌<◌, ◌≤◌, inl, length, refl, sym, ◌∙◌, ap, subst, arith}
+use Rattle.std.proofs.Common.{◌≡◌, ◌<◌, ◌≤◌, inl, length, refl, sym, ◌∙◌, ap, subst, arith}
 use Rattle.std.proofs.lemmas.List.{get_or_read}
 use Rattle.xn_model.specs.Lists.{at}
 use Rattle.xn_model.specs.Map.{reverse_of, tail_of}
 use Rattle.xn_model.proofs.Darts.{reverse_below}
-use Rattle.xn_graph.specs.Stars.{darts_of}
 use Rattle.xn_graph.proofs.DartsOf.{darts_of-at}
-use Rattle.xn_blocks.specs.Growth.{GoesOnAt, Lists, far_end, lists_in, with_dart, with_node}
+use Rattle.xn_blocks.specs.Growth.{GoesOnAt, far_end, lists_in, with_dart}
 use Rattle.xn_blocks.proofs.Growing.{few}
 use Rattle.xn_blocks.proofs.SearchSteps.{few_darts, goes_down, goes_past}
 use Rattle.xn_blocks.proofs.forest.Forest.try_dart.Goals as goal
