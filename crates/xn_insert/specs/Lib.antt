@@ -1,0 +1,2 @@
+pub mod ListedLoose
+pub mod Calls
