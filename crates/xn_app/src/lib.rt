@@ -5,10 +5,13 @@
 mod files;
 mod judging;
 mod output;
+mod running;
 mod status;
 mod system;
+mod telling;
 mod top_call;
 
+pub use running::run;
 pub use status::{Limit, Status};
 pub use system::start;
 pub use top_call::top;
