@@ -1,0 +1,4 @@
+mod Answered
+mod Counted
+mod Opened
+mod Searching

@@ -1,0 +1,12 @@
+//! The search for a drawing with the fewest crossings, and for the proof that no drawing has fewer.
+#![tactic(auto)]
+
+mod decisions;
+mod ones;
+mod round;
+mod searches;
+mod solved;
+
+pub use decisions::{Decider, Decision, Drawn};
+pub use searches::{Searched, search};
+pub use solved::{Proof, Solved, Work, solve_from};
