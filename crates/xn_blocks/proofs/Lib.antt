@@ -14,4 +14,5 @@ pub mod Paths
 pub mod Rounds
 pub mod SearchSteps
 pub mod Searched
+pub mod SharedNodes
 pub mod Step

@@ -58,9 +58,10 @@ impl Forest {
         requires done { AllDone web.now (lists_in self.old) }
         requires node { root < web.now.nodes }
         requires new { web.now.nodes ≤ at self.old.number.items root }
+        requires few { web.now.nodes ≤ 2 ^ 30 }
         ensures { OnOk result (Explores web.now (lists_in self.old) (lists_in self.new) root) }
     {
-        self.find(root, root, web.nodes())?;
+        self.find(root, root)?;
         let mut place = Some(root);
         while let Some(v) = place {
             place = self.go_on(web, stars, v)?;
@@ -95,7 +96,7 @@ impl Forest {
             self.count_dart(v);
             return Ok(v);
         }
-        self.find(w, v, web.nodes())?;
+        self.find(w, v)?;
         self.count_dart(v);
         Ok(w)
     }
@@ -110,10 +111,10 @@ impl Forest {
     }
 
     // Notes a new node with its parent.
-    fn find(&mut self, v: u32, parent: u32, nodes: u32) -> Result<(), AllocError>
+    fn find(&mut self, v: u32, parent: u32) -> Result<(), AllocError>
         requires number { v < length self.old.number.items }
         requires parent { v < length self.old.parent.items }
-        requires few { length self.old.order.items < nodes }
+        requires few { length self.old.order.items < 2 ^ 32 }
         ensures { OnOk result (lists_in self.new ≡ with_node (lists_in self.old) v parent) }
     {
         self.number[v as usize] = self.order.len() as u32;

@@ -7,7 +7,7 @@ use Rattle.xn_blocks.proofs.forest.Forest.explore.Goals as goal
 pub find-requires-clause-few : goal.find-requires-clause-few
 find-requires-clause-few c =
     let r = c.args.root in
-    omega (arith, few c.args.web.now (lists_in c.args.self.now) c.requires.found r r c.requires.node c.requires.new (inl refl), c.nodes.ensures.value)
+    omega (arith, few c.args.web.now (lists_in c.args.self.now) c.requires.found r r c.requires.node c.requires.new (inl refl), c.requires.few)
 
 pub loop-place-init : goal.loop-place-init
 loop-place-init c =

@@ -36,7 +36,7 @@ find-requires-clause-few c =
     let s = lists_in c.args.self.now in
     let w = c.tail-w.result in
     let num : c.index.result.now ≡ at s.number w = get_or_read s.number w _ (omega (arith, c.tail-w.ensures.node, c.requires.here.found.numbers)) c.index.ensures 0 in
-    omega (arith, few web s c.requires.here.found w w c.tail-w.ensures.node (omega (arith, num, c.if-index-nodes.false, c.nodes.ensures.value)) (inl refl), c.nodes-2.ensures.value)
+    omega (arith, few web s c.requires.here.found w w c.tail-w.ensures.node (omega (arith, num, c.if-index-nodes.false, c.nodes.ensures.value)) (inl refl), c.nodes.ensures.limited.few_nodes)
 
 pub count_dart-requires-2-clause-few : goal.count_dart-requires-2-clause-few
 count_dart-requires-2-clause-few c =
