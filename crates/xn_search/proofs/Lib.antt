@@ -1,4 +1,4 @@
 mod Answered
-mod Counted
 mod Opened
+mod Pushed
 mod Searching

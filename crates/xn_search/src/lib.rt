@@ -7,6 +7,6 @@ mod round;
 mod searches;
 mod solved;
 
-pub use decisions::{Decider, Decision, Drawn};
+pub use decisions::{Claim, Decider, Decision, Drawn};
 pub use searches::{Searched, search};
 pub use solved::{Proof, Solved, Work, solve_from};

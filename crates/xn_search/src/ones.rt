@@ -1,32 +1,77 @@
-ghost use Rattle.std.specs.Prelude.{◌≡◌, ◌<◌, length};
-ghost use Rattle.xn_model.specs.Graph.{edges_of, pairs_of};
-ghost use Rattle.xn_effort.specs.Potential.{is_one, ones_in};
+// How many pairs are decided 1 in each pending state of a round, the first state last.
+ghost use Rattle.std.specs.Prelude.{◌≡◌, ◌∷◌, ◌<◌, ◌≤◌, ◌++◌, ℕ, IfOk, IsFalse, IsTrue, List};
+ghost use Rattle.xn_kinds.specs.State.{State, IsState};
+ghost use Rattle.xn_kinds.specs.Tree.{Fits, children};
+ghost use Rattle.xn_effort.specs.Potential.{IsSearched, ones_in};
 ghost use Rattle.xn_tree.specs.Given.{state_of};
+ghost use Rattle.xn_search.specs.Ones.{EndsWith, ones_of, with_children, with_copies};
 
+use crate::decisions::Claim;
+use std::alloc::{AllocError, Global};
+use xn_kinds::Node;
 use xn_tree::Given;
 
-/// The number of pairs that are decided 1, among the independent pairs of the graph.
-pub fn ones(given: &Given, pairs: &[(u32, u32)]) -> usize
-    requires { pairs.now ≡ pairs_of given.now.graph.ends (edges_of given.now.graph) }
-    ensures { result ≡ ones_in given.now.graph (state_of given.now) }
+/// Whether the number of the first state is at least that of the crossings to be proved.
+pub fn is_full(claim: &Claim, ones: &[u32]) -> bool
+    requires counted { (n : ℕ) × EndsWith ones.now n }
+    ensures full { IsTrue result → (n : ℕ) → EndsWith ones.now n → claim.now.crossings ≤ n }
+    ensures low { IsFalse result → (n : ℕ) → EndsWith ones.now n → n < claim.now.crossings }
 {
-    let mut count = 0;
-    for (e, f) in pairs {
-        if is_one(given, *e, *f) {
-            count += 1;
-        }
-    }
-    count
+    ones[ones.len() - 1] >= claim.crossings
 }
 
-// Whether the pair, the smaller edge first, is decided 1.
-fn is_one(given: &Given, e: u32, f: u32) -> bool
-    requires rises { e < f }
-    requires below { f < length given.now.graph.ends }
-    ensures { result ≡ is_one ((state_of given.now).decided e f) }
+/// The numbers of its children in place of that of the first state, which is given and is opened by the node.
+pub fn count_children(
+    claim: &Claim,
+    given: &Given,
+    node: &Node,
+    ones: &mut Vec<u32>,
+) -> Result<(), AllocError>
+    requires graph { given.now.graph ≡ claim.now.graph.now }
+    requires state { IsState claim.now.graph.now (state_of given.now) }
+    requires fits { Fits claim.now.graph.now (state_of given.now) node.now }
+    requires searched { IsSearched claim.now.graph.now claim.now.crossings (state_of given.now) node.now }
+    requires counted { EndsWith ones.old.items (ones_in claim.now.graph.now (state_of given.now)) }
+    ensures { IfOk result (λ _. (left : List State) → ones.old.items ≡ ones_of claim.now.graph.now (state_of given.now ∷ left) →
+        ones.new.items ≡ ones_of claim.now.graph.now (children (state_of given.now) node.now ++ left)) }
 {
-    match given.value(e, f) {
-        Some(one) => one,
-        None => false,
+    let last = ones.len() - 1;
+    let first = ones[last];
+    ones.truncate(last);
+    push_children(claim, given, node, first, ones)
+}
+
+// The numbers of the children of a state behind the others.
+fn push_children(
+    claim: &Claim,
+    given: &Given,
+    node: &Node,
+    first: u32,
+    ones: &mut Vec<u32>,
+) -> Result<(), AllocError>
+    requires graph { given.now.graph ≡ claim.now.graph.now }
+    requires state { IsState claim.now.graph.now (state_of given.now) }
+    requires fits { Fits claim.now.graph.now (state_of given.now) node.now }
+    requires searched { IsSearched claim.now.graph.now claim.now.crossings (state_of given.now) node.now }
+    requires first { first ≡ ones_in claim.now.graph.now (state_of given.now) }
+    ensures { IfOk result (λ _. ones.new.items ≡ with_children ones.old.items first (state_of given.now) node.now) }
+{
+    match node {
+        Node::Pair(_, _) => {
+            ones.push(first + 1)?;
+            ones.push(first)
+        }
+        Node::Place(e, _) => push_copies(first, given.placed(*e).len() + 1, ones),
+        Node::Leaf { .. } => Ok(()),
     }
+}
+
+// The number so many times behind the others.
+fn push_copies(number: u32, count: usize, ones: &mut Vec<u32>) -> Result<(), AllocError>
+    ensures { IfOk result (λ _. ones.new.items ≡ with_copies ones.old.items count number) }
+{
+    for _ in 0..count {
+        ones.push(number)?;
+    }
+    Ok(())
 }
