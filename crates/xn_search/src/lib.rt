@@ -6,6 +6,8 @@ mod ones;
 mod round;
 mod searches;
 mod solved;
+#[cfg(test)]
+mod tests;
 
 pub use decisions::{Claim, Decider, Decision, Drawn};
 pub use searches::{Searched, search};
