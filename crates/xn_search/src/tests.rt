@@ -107,9 +107,7 @@ fn has_sizes(row: &Row) -> bool
 {
     match &row.evidence {
         Evidence::Five { branch, paths } => {
-            row.orders.len() == row.edges.len()
-                && branch.as_slice().len() == 5
-                && paths.len() == 10
+            row.orders.len() == row.edges.len() && branch.as_slice().len() == 5 && paths.len() == 10
         }
         _ => false,
     }
@@ -186,7 +184,12 @@ fn found(alloc: Global, budget: u64) -> Result<(u32, u64, usize, usize), Fail>
     let graph = Graph::make(5, Vec::from_slice(alloc, &ENDS)?)?;
     let first = drawn(alloc, &graph)?;
     let solved = solve_from(alloc, &graph, first, budget, &mut Branching)?;
-    Ok((solved.lower, solved.spent, solved.rows.len(), solved.tree.len()))
+    Ok((
+        solved.lower,
+        solved.spent,
+        solved.rows.len(),
+        solved.tree.len(),
+    ))
 }
 
 #[test]
