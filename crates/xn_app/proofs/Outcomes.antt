@@ -14,16 +14,16 @@ use Rattle.xn_command.specs.Request.{Request, check, draw, examine}
 use Rattle.xn_show.specs.Text.{show_text}
 use Rattle.xn_app.specs.Files.{IsInMemory, answer_of}
 use Rattle.xn_app.specs.Ends.{Ran, SaysBounds, SaysDrawing, SaysShown, Wrote}
-use Rattle.xn_app.specs.Outcome.{Checked, ComesTo, Drawn, Examined, IsJudged, OnGraph, Outcome, outcome_of, refused_graph}
+use Rattle.xn_app.specs.Outcome.{Checked, ComesTo, Drawn, Examined, IsByVerdict, OnGraph, Outcome, outcome_of, refused_graph}
 use Rattle.xn_app.specs.Output.{accepted_line, seen_line}
 use Rattle.xn_app.specs.declared.status.Status.{Status}
 use Rattle.xn_app.specs.declared.status.Status.TheVariants.{Done, Refused}
 use Rattle.xn_app.proofs.Graphs.{limited}
 
-pub accepted : {V : Type 0} (HasVerdict : Result V Flaw → Type 0) (text : V → List ℕ) (v : V) (output : List ℕ) → HasVerdict (Ok v) → output ≡ text v → IsJudged HasVerdict text (Done, output)
+pub accepted : {V : Type 0} (HasVerdict : Result V Flaw → Type 0) (text : V → List ℕ) (v : V) (output : List ℕ) → HasVerdict (Ok v) → output ≡ text v → IsByVerdict HasVerdict text (Done, output)
 accepted HasVerdict text v output holds is = record { verdict = Ok v; holds = holds; outcome_is = ap (λ o. (Done, o)) is }
 
-pub refused : {V : Type 0} (HasVerdict : Result V Flaw → Type 0) (text : V → List ℕ) (flaw : Flaw) (output : List ℕ) → HasVerdict (Err flaw) → output ≡ flaw_line flaw → IsJudged HasVerdict text (Refused flaw, output)
+pub refused : {V : Type 0} (HasVerdict : Result V Flaw → Type 0) (text : V → List ℕ) (flaw : Flaw) (output : List ℕ) → HasVerdict (Err flaw) → output ≡ flaw_line flaw → IsByVerdict HasVerdict text (Refused flaw, output)
 refused HasVerdict text flaw output holds is = record { verdict = Err flaw; holds = holds; outcome_is = ap (λ o. (Refused flaw, o)) is }
 
 -- ---- Done
@@ -38,7 +38,7 @@ accepted_by : {V : Type 0} (HasVerdict : Result V Flaw → Type 0) (text : V →
 accepted_by HasVerdict text output (Ok v) holds is = record { value = v; holds = holds; output_is = ap (λ (o : Outcome). o.1) is }
 accepted_by HasVerdict text output (Err flaw) holds is = let e : Done ≡ Refused flaw = ap (λ (o : Outcome). o.0) is in absurd cc
 
-was_accepted : {V : Type 0} (HasVerdict : Result V Flaw → Type 0) (text : V → List ℕ) (output : List ℕ) → IsJudged HasVerdict text (Done, output) → WasAccepted HasVerdict text output
+was_accepted : {V : Type 0} (HasVerdict : Result V Flaw → Type 0) (text : V → List ℕ) (output : List ℕ) → IsByVerdict HasVerdict text (Done, output) → WasAccepted HasVerdict text output
 was_accepted HasVerdict text output judged = accepted_by HasVerdict text output judged.verdict judged.holds judged.outcome_is
 
 says_drawing : (law : SeenWhereSpelled) (text : List ℕ) (old new : Option (List ℕ)) → IsInMemory text → Wrote (Examined text) Done old new → SaysDrawing text old new

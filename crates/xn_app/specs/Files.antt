@@ -24,10 +24,10 @@ IsOneBegun told begun graph answer =
     (begun ≡ Some graph) ⊎ ((begun ≡ Some answer) × IfSome told (λ files. IsOk (graph_of_text (bytes_of files graph))))
 
 -- the name begun last is that of the first file, or of the second, if its turn came
-abbrev pub IsBegun : Option Files → Option (List ℕ) → Request → Type 0
-IsBegun told begun (examine answer) = begun ≡ Some answer
-IsBegun told begun (check graph answer) = IsOneBegun told begun graph answer
-IsBegun told begun (draw graph answer) = IsOneBegun told begun graph answer
+abbrev pub IsLastBegun : Option Files → Option (List ℕ) → Request → Type 0
+IsLastBegun told begun (examine answer) = begun ≡ Some answer
+IsLastBegun told begun (check graph answer) = IsOneBegun told begun graph answer
+IsLastBegun told begun (draw graph answer) = IsOneBegun told begun graph answer
 
 -- ---- what the input shows
 

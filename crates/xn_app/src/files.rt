@@ -29,8 +29,8 @@ pub fn read_file<I: Input>(alloc: Global, input: &mut I, name: String) -> Result
     Ok(read_all(alloc, input, name, MAX_BYTES)?)
 }
 
-/// The graph of one file, and all the bytes of another, which is read only where there is a graph; or the end of the run
-/// without them.
+/// The graph of one file, and all the bytes of another, which is read only where there is a graph; or the end of
+/// the run without them.
 pub fn read_both<I: Input>(
     alloc: Global,
     input: &mut I,
