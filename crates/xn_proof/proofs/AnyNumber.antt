@@ -1,5 +1,5 @@
 -- What a line says doesn't depend on its number, which only a flaw tells: so lines say the same whatever their numbers are.
-use Rattle.std.proofs.Common.{◌≡◌, ℕ, ◌+◌, ◌-◌, ◌^◌, ◌==◌, Bool, true, false, cond, ltb, List, [], ◌∷◌, length, map, min, Option, Some, None, Result, Ok, Err, sym, ◌∙◌, codes}
+use Rattle.std.proofs.Common.{◌≡◌, ℕ, ◌+◌, ◌-◌, ◌^◌, ◌==◌, Bool, true, false, cond, ltb, List, [], ◌∷◌, length, map, min, Option, Some, None, Result, Ok, Err, refl, sym, ◌∙◌, codes}
 use Rattle.std.specs.Str.{bytes_eq}
 use Rattle.xn_kinds.specs.declared.flaws.Flaw.{Flaw}
 use Rattle.xn_kinds.specs.declared.trees.Node.TheVariants.{Pair, Place as PlaceNode, Leaf}
