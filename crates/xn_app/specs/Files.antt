@@ -1,5 +1,5 @@
 -- Reading the files of a command, and what the input shows at an end.
-use Rattle.std.specs.Prelude.{◌≡◌, ◌⊎◌, ℕ, ◌^◌, ◌<◌, ◌≤◌, Bool, true, false, List, length, Option, Some, IfSome, Result, Ok, Err, IsOk}
+use Rattle.std.specs.Prelude.{◌≡◌, ◌⊎◌, ℕ, ◌^◌, ◌<◌, ◌≤◌, Bool, true, false, List, Option, Some, IfSome, Result, Ok, Err, IsOk}
 use Rattle.xn_gml.specs.Meaning.{Found, graph_of_text}
 use Rattle.xn_gml.specs.declared.errors.GmlErr.{GmlErr}
 use Rattle.xn_io.specs.Causes.{Rose}
@@ -30,10 +30,6 @@ IsLastBegun told begun (check graph answer) = IsOneBegun told begun graph answer
 IsLastBegun told begun (draw graph answer) = IsOneBegun told begun graph answer
 
 -- ---- what the input shows
-
--- a text that was read; none in memory is longer
-abbrev pub IsInMemory : List ℕ → Type 0
-IsInMemory text = length text < 2 ^ 63
 
 -- no call failed since the last begin, and not too many bytes were given
 pub record IsFine (failed : Bool) (got : ℕ) : Type 0 where

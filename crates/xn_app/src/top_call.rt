@@ -5,7 +5,7 @@ ghost use Rattle.xn_io.specs.Input.{bytes_of};
 ghost use Rattle.xn_command.specs.Gives.{request_of_command, words_request};
 ghost use Rattle.xn_command.specs.Request.{check, draw, examine};
 ghost use Rattle.xn_app.specs.Ends.{Finishes, Quits, Ran, SaysBounds, SaysDrawing, SaysShown, Told};
-ghost use Rattle.xn_app.specs.Files.{IsLastBegun, IsFine, IsInMemory, Shows, answer_of};
+ghost use Rattle.xn_app.specs.Files.{IsLastBegun, IsFine, Shows, answer_of};
 ghost use Rattle.xn_app.specs.Outcome.{ComesTo, Outcome};
 ghost use Rattle.xn_app.specs.Status.{IsAside, IsEarly, IsJudgedEnd, IsSilent, IsStarted, IsVerdictEnd};
 
@@ -80,8 +80,6 @@ fn work<I: Input>(
 ) -> Result<(Status, Vec<u8>), Status>
     ensures comes { IfOk result (λ x. IfSome (I.told input.old)
         (λ files. ComesTo files (request_of_command command) (x.0, x.1.items))) }
-    ensures short { IfOk result (λ _. IfSome (I.told input.old)
-        (λ files. IsInMemory (bytes_of files (answer_of (request_of_command command))))) }
     ensures judged { IfOk result (λ x. IsVerdictEnd x.0) }
     ensures quits { IfErr result (λ end. IfSome (I.told input.old)
         (λ files. Quits (ComesTo files (request_of_command command)) end)) }

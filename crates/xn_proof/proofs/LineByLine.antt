@@ -199,7 +199,7 @@ kept_by : (x : Item) (o : List Item × Reached) (b : Bool) → cond b (Ok (x ∷
 kept_by x o true = refl
 kept_by x o false = refl
 
-kept : (x : Item) (read : Result (List Item × Reached) Flaw) → up_to_end (read >>= then_items x) ≡ (up_to_end read >>= λ items. Ok (x ∷ items))
+pub kept : (x : Item) (read : Result (List Item × Reached) Flaw) → up_to_end (read >>= then_items x) ≡ (up_to_end read >>= λ items. Ok (x ∷ items))
 kept x (Ok o) = kept_by x o (is_end o.1.1)
 kept x (Err e) = refl
 

@@ -1,5 +1,5 @@
 -- Lines taken one by one: which line may stand at a place, what it says, and which place comes after it.
-use Rattle.std.specs.Prelude.{◌≡◌, ℕ, zero, suc, ◌+◌, ◌-◌, ◌*◌, ◌^◌, ◌<◌, ◌≤◌, Bool, true, false, List, [], ◌∷◌, ◌++◌, length, map, min, Option, Some, None, Result, Ok, Err, if◌then◌else◌, codes}
+use Rattle.std.specs.Prelude.{◌≡◌, ◌↔◌, ℕ, zero, suc, ◌+◌, ◌-◌, ◌*◌, ◌^◌, ◌<◌, ◌≤◌, Bool, true, false, List, [], ◌∷◌, ◌++◌, length, map, min, Option, Some, None, Result, Ok, Err, if◌then◌else◌, codes}
 use Rattle.std.specs.List.{flat_map}
 use Rattle.xn_kinds.specs.declared.answers.Answer.{Answer}
 use Rattle.xn_kinds.specs.declared.drawings.Drawing.{Drawing}
@@ -216,3 +216,9 @@ abbrev pub LinesSayTheAnswer : Type 0
 LinesSayTheAnswer =
     (text : List ℕ) → length (text_lines text) < 2 ^ 64 - 1 →
     up_to_end (lines_at start_state (text_lines text)) ≡ (answer_of text >>= λ a. Ok (items_of a))
+
+-- they come to the end with just the items of the text's answer, however many they are
+abbrev pub LinesSayItsItems : Type 0
+LinesSayItsItems =
+    (text : List ℕ) (items : List Item) →
+    (up_to_end (lines_at start_state (text_lines text)) ≡ Ok items) ↔ ((answer_of text >>= λ a. Ok (items_of a)) ≡ Ok items)
