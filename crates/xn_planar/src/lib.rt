@@ -6,7 +6,9 @@ mod cores;
 mod deciding;
 mod planarity;
 mod renaming;
+mod shrinking;
 #[cfg(test)]
 mod tests;
 
 pub use planarity::{Planarity, planar};
+pub use shrinking::{MinimalWeb, minimal};

@@ -1,8 +1,8 @@
 // Evidence for listed segments of a web is evidence for the web.
-ghost use Rattle.std.specs.Prelude.{◌≡◌, IfOk, IfSome};
+ghost use Rattle.std.specs.Prelude.{◌≡◌, IfOk};
 ghost use Rattle.xn_genus.specs.Part.{AreSegmentsApart};
 ghost use Rattle.xn_planar.specs.Named.{AreAllPlaces, ArePlaces, NamesPlaces, named, named_path, named_paths};
-ghost use Rattle.xn_planar.specs.Planar.{Refutes};
+ghost use Rattle.xn_planar.specs.Planar.{IsEvidenceWithin};
 
 use std::alloc::{AllocError, Global};
 use xn_extend::listed_web;
@@ -10,17 +10,19 @@ use xn_graph::Web;
 use xn_kinds::{Evidence, Paths};
 use xn_kura::find_kind;
 use xn_kura::laws::evidence_excludes_flat_maps;
+use xn_kuratowski::laws::cores;
 
-/// An evidence that uses all of the listed segments, if there is one.
+/// An evidence that uses all of the listed segments, if there is one. There is if they are a core.
 pub fn evidence_within(
     alloc: Global,
     web: &Web,
     list: &[u32],
 ) -> Result<Option<Evidence>, AllocError>
     requires { AreSegmentsApart web.now.ends list.now }
-    ensures { IfOk result (λ found. IfSome found (Refutes web.now)) }
+    ensures { IfOk result (IsEvidenceWithin web.now list.now) }
 {
     evidence_excludes_flat_maps();
+    cores();
     let listed = listed_web(alloc, web, list)?;
     match find_kind(alloc, &listed)? {
         None => Ok(None),
