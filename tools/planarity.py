@@ -18,7 +18,7 @@ import tempfile
 import networkx
 
 PROGRAM = """
-//! Asks for a flat map of each web of a file, a line each, and prints what is answered, or the best time.
+//! Does what each line of a file says: a call, how often, and a web. It prints what is answered, or the best time.
 #![tactic(auto)]
 
 ghost use Rattle.std.specs.Prelude.{IsTrue};
@@ -46,9 +46,11 @@ fn has_no_loop(web: &Web) -> bool
     true
 }
 
-/// The web of a line: the number of nodes, and the two ends of each segment.
+/// The web of a line, after its first two words: the number of nodes, and the two ends of each segment.
 fn web_of(alloc: Global, line: &str) -> Result<Option<Web>, AllocError> {
     let mut words = line.split_whitespace();
+    words.next();
+    words.next();
     let Some(first) = words.next() else {
         return Ok(None);
     };
@@ -149,18 +151,28 @@ fn time(rt: &HostRuntime, web: &Web, which: &str, repeats: u32) -> io::Result<()
     println!(rt; "{best} {found}")
 }
 
+/// Does what a line says.
+fn work(rt: &HostRuntime, line: &str) -> io::Result<()> {
+    let Some(web) = web_of(rt.alloc(), line)? else {
+        return println!(rt; "no web");
+    };
+    if !has_no_loop(&web) {
+        return println!(rt; "a loop");
+    }
+    let mut words = line.split_whitespace();
+    let which = words.next().unwrap_or("");
+    let repeats = words.next().unwrap_or("").parse::<u32>().unwrap_or(1);
+    if which == "answer" {
+        answer(rt, &web)
+    } else {
+        time(rt, &web, which, repeats)
+    }
+}
+
 fn main(rt: HostRuntime) -> io::Result<()> {
     let text = fs::read_to_string(&rt, "@FILE@")?;
     for line in text.lines() {
-        let Some(web) = web_of(rt.alloc(), line)? else {
-            println!(rt; "no web")?;
-            continue;
-        };
-        if !has_no_loop(&web) {
-            println!(rt; "a loop")?;
-            continue;
-        }
-        @WORK@
+        work(&rt, line)?;
     }
     Ok(())
 }
@@ -169,7 +181,7 @@ fn main(rt: HostRuntime) -> io::Result<()> {
 INVARIANT = """
 use Rattle.std.proofs.Common.{◌≢◌, ℕ, ◌<◌}
 use Rattle.xn_model.specs.Graph.{ends_at}
-use Rattle.NAME.proofs.has_no_loop.Given as goal
+use Rattle.planarity_asked.proofs.has_no_loop.Given as goal
 
 -- no segment passed is a loop
 abbrev pub invariant-loop-s : goal.invariant-loop-s
@@ -360,8 +372,8 @@ def below(name, lines):
     return list(dict.fromkeys([m for n in own for m in below(n, lines)] + [name]))
 
 
-def run(folder, name, work, webs):
-    """What the program prints, a line for each web."""
+def run(folder, asked):
+    """What the program prints, a line for each call, how often, and web."""
     top = pathlib.Path(__file__).resolve().parent.parent
     lines = {}
     for line in (top / "crates.txt").read_text().splitlines():
@@ -373,17 +385,16 @@ def run(folder, name, work, webs):
         if not (folder / "crates" / crate).exists():
             shutil.copytree(top / "crates" / crate, folder / "crates" / crate, symlinks=True)
     needs = "".join(f"{n}: {' '.join(lines[n])}\n" for n in names)
-    (folder / "crates.txt").write_text(needs + f"{name}: {OVER}\n")
+    (folder / "crates.txt").write_text(needs + f"planarity_asked: {OVER}\n")
     shutil.copy(top / "HANDLES", folder)
     subprocess.run(["git", "init", "-q", folder], check=True)
-    numbers = [[n] + [x for p in ends for x in p] for n, ends in webs]
-    (folder / "webs.txt").write_text("".join(" ".join(map(str, line)) + "\n" for line in numbers))
-    program = folder / "crates" / name
+    told = [[which, repeats, n] + [x for p in ends for x in p] for which, repeats, (n, ends) in asked]
+    (folder / "webs.txt").write_text("".join(" ".join(map(str, line)) + "\n" for line in told))
+    program = folder / "crates" / "planarity_asked"
     for part in ("src", "proofs/has_no_loop"):
         (program / part).mkdir(parents=True, exist_ok=True)
-    text = PROGRAM.lstrip().replace("@FILE@", str(folder / "webs.txt")).replace("@WORK@", work)
-    (program / "src" / "main.rt").write_text(text)
-    (program / "proofs" / "has_no_loop" / "Invariants.antt").write_text(INVARIANT.lstrip().replace("NAME", name))
+    (program / "src" / "main.rt").write_text(PROGRAM.lstrip().replace("@FILE@", str(folder / "webs.txt")))
+    (program / "proofs" / "has_no_loop" / "Invariants.antt").write_text(INVARIANT.lstrip())
     done = subprocess.run(["rt", "run", "--jobs", "1"], cwd=program, stdout=subprocess.PIPE, text=True)
     if done.returncode:
         print(done.stdout)
@@ -395,8 +406,7 @@ def compare(folder):
     r = random.Random(7)
     webs = [random_web(r) for _ in range(5_000)]
     words = ("flat", "five", "three", "extension", "no", "a")
-    lines = run(folder, "planarity_answers", "answer(&rt, &web)?;", webs)
-    lines = [line for line in lines if line.split(" ")[0] in words]
+    lines = [line for line in run(folder, [("answer", 1, web) for web in webs]) if line.split(" ")[0] in words]
     wrong = [(web, line) for web, line in zip(webs, lines) if judge(*web, line)]
     kinds = [line.split()[0] for line in lines]
     counts = ", ".join(f"{kinds.count(k)} {k}" for k in sorted(set(kinds)))
@@ -410,40 +420,31 @@ def times(folder):
     k5 = complete(5)
     large = with_ends(grid(22, 22), [(0, 483), (21, 462)])
     rows = [
-        ("planar", "grid 23 x 23", grid(23, 23), 20),
-        ("planar", "nested triangles", nested_triangles(167), 20),
-        ("planar", "stacked triangulation", stacked(335), 20),
-        ("planar", "wheel", wheel(500), 20),
-        ("planar", "tree", tree(1_001), 20),
-        ("planar", "K2,500", two_sides(2, 500), 20),
-        ("planar", "1,000 parallel segments", (2, [(0, 1)] * 1_000), 5),
-        ("planar", "grid 22 x 22 and two far segments", large, 10),
-        ("planar", "Moebius ladder", moebius(333), 10),
-        ("planar", "K5 with paths of 100", long_paths(*k5, 100), 10),
-        ("planar", "K8", complete(8), 100),
-        ("try_embed", "K7 with 9 crossings", planted(7, 9), 1_000),
-        ("try_embed", "K8 with 10 crossings", planted(8, 10), 1_000),
-        ("try_embed", "grid 23 x 23", grid(23, 23), 20),
-        ("minimal", "K8", complete(8), 10),
-        ("minimal", "grid 22 x 22 and two far segments", large, 1),
-        ("minimal", "K5 with paths of 100", long_paths(*k5, 100), 1),
-        ("blocks", "tree of 1,000,000 segments", tree(1_000_001), 1),
-        ("blocks", "grid of 1,000,000 segments", grid(708, 707), 1),
+        ("planar", 20, "grid 23 x 23", grid(23, 23)),
+        ("planar", 20, "nested triangles", nested_triangles(167)),
+        ("planar", 20, "stacked triangulation", stacked(335)),
+        ("planar", 20, "wheel", wheel(500)),
+        ("planar", 20, "tree", tree(1_001)),
+        ("planar", 20, "K2,500", two_sides(2, 500)),
+        ("planar", 5, "1,000 parallel segments", (2, [(0, 1)] * 1_000)),
+        ("planar", 10, "grid 22 x 22 and two far segments", large),
+        ("planar", 10, "Moebius ladder", moebius(333)),
+        ("planar", 10, "K5 with paths of 100", long_paths(*k5, 100)),
+        ("planar", 100, "K8", complete(8)),
+        ("try_embed", 1_000, "K7 with 9 crossings", planted(7, 9)),
+        ("try_embed", 1_000, "K8 with 10 crossings", planted(8, 10)),
+        ("try_embed", 20, "grid 23 x 23", grid(23, 23)),
+        ("minimal", 10, "K8", complete(8)),
+        ("minimal", 1, "grid 22 x 22 and two far segments", large),
+        ("minimal", 1, "K5 with paths of 100", long_paths(*k5, 100)),
+        ("blocks", 1, "tree of 1,000,000 segments", tree(1_000_001)),
+        ("blocks", 1, "grid of 1,000,000 segments", grid(708, 707)),
     ]
-    found = []
-    for repeats in sorted({row[3] for row in rows}):
-        part = [row for row in rows if row[3] == repeats]
-        for which in sorted({row[0] for row in part}):
-            some = [row for row in part if row[0] == which]
-            work = f'time(&rt, &web, "{which}", {repeats})?;'
-            lines = run(folder, "planarity_times", work, [row[2] for row in some])
-            found += zip(some, [l for l in lines if len(l.split()) == 2 and l.replace(" ", "").isdigit()])
-    for which, name, web, repeats in rows:
-        for row, line in found:
-            if row[:2] == (which, name):
-                best, answered = line.split()
-                print(f"{which:10} {name:36} {len(web[1]):8} segments  {int(best) / 1e6:10.3f} ms  answer {answered}")
-    return 0
+    lines = run(folder, [(which, repeats, web) for which, repeats, _, web in rows])
+    lines = [line.split() for line in lines if line.replace(" ", "").isdigit() and len(line.split()) == 2]
+    for (which, _, name, web), (best, answered) in zip(rows, lines):
+        print(f"{which:10} {name:34} {len(web[1]):8} segments {int(best) / 1e6:10.3f} ms  answer {answered}")
+    return 0 if len(lines) == len(rows) else 1
 
 
 if __name__ == "__main__":

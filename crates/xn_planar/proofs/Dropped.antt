@@ -11,7 +11,7 @@ use Rattle.std.proofs.Math.Seq.{split_at}
 use Rattle.xn_model.specs.Graph.{EndsIn, Graph, HasNoLoop, ends_at}
 use Rattle.xn_model.specs.Lists.{at, has}
 use Rattle.xn_genus.specs.Part.{AreSegmentsApart, ends_listed}
-use Rattle.xn_graph.specs.Limits.{HasNodes, graph_of}
+use Rattle.xn_graph.specs.Limits.{HasNodes}
 use Rattle.xn_graph.proofs.Ends.{EndsIn-at, EndsIn-from_each}
 use Rattle.xn_ring.proofs.Inverse.{range_with_len-more}
 use Rattle.xn_extend.specs.Extended.{listed_web}
@@ -19,11 +19,11 @@ use Rattle.xn_components.proofs.AllListed.{all_web}
 use Rattle.xn_components.proofs.Flooding.{has_at}
 use Rattle.xn_components.proofs.LaidBelow.{no_loop_listed}
 use Rattle.xn_fewer.specs.Flat.{HasFlat, IsSelection, SomeSegmentsStayFlat}
-use Rattle.xn_kuratowski.specs.Core.{IsCore, left_without}
+use Rattle.xn_kuratowski.specs.Core.{left_without}
 use Rattle.xn_planar.specs.Leaving.{AreLeft, IsLeastFront, IsLeftOver, StaysWhereNeeded, from_front, without}
 use Rattle.xn_planar.specs.Named.{RiseBelow}
 use Rattle.xn_planar.specs.Planar.{HasNoFlatMap}
-use Rattle.xn_planar.proofs.Rising.{apart_from_rise, rise_none}
+use Rattle.xn_planar.proofs.Rising.{apart_from_rise}
 
 -- ---- lists
 

@@ -1,5 +1,5 @@
 -- Evidence for listed segments of a web is evidence for the web.
-use Rattle.std.proofs.Common.{◌≡◌, ◌≢◌, ℕ, zero, suc, ◌<◌, ◌⊎◌, inl, inr, false, true, eqb, map, List, [], ◌∷◌, ◌++◌, length, refl, sym, ◌∙◌, ap, subst, arith}
+use Rattle.std.proofs.Common.{◌≡◌, ℕ, zero, suc, ◌<◌, inl, inr, false, true, eqb, map, List, [], ◌∷◌, ◌++◌, length, refl, sym, ◌∙◌, ap, subst, arith}
 use Rattle.std.specs.List.{AllByRecursion, IsDistinct, concat}
 use Rattle.std.proofs.lemmas.Bool.{both_ways, eq-eqb, eqb-false, eqb-true, ne_eqb, or_cases, or_left, or_right}
 use Rattle.std.proofs.lemmas.List.{get_or_default, length-map}
@@ -15,8 +15,8 @@ use Rattle.xn_genus.specs.Part.{AreSegmentsApart, ends_listed}
 use Rattle.xn_extend.specs.Extended.{listed_web}
 use Rattle.xn_extend.proofs.Corners.{size_listed}
 use Rattle.xn_components.proofs.Flooding.{has_append, has_at}
-use Rattle.xn_kura.specs.Flaws.{HasAKind, path_at}
-use Rattle.xn_planar.specs.Named.{AreAllPlaces, ArePlaces, NamesPlaces, named, named_path, named_paths}
+use Rattle.xn_kura.specs.Flaws.{HasAKind}
+use Rattle.xn_planar.specs.Named.{AreAllPlaces, NamesPlaces, named, named_path, named_paths}
 
 -- ---- names
 

@@ -1,9 +1,9 @@
-use Rattle.std.proofs.Common.{◌+◌, ◌++◌, Bool, List, ℕ, refl, sym, ap, subst, ◌∙◌}
+use Rattle.std.proofs.Common.{◌++◌, refl, sym, ap, subst, ◌∙◌}
 use Rattle.xn_model.specs.Graph.{Graph}
 use Rattle.xn_genus.specs.Part.{AreSegmentsApart}
-use Rattle.xn_components.specs.Flood.{MarksComponent, ShareNoNode}
+use Rattle.xn_components.specs.Flood.{ShareNoNode}
 use Rattle.xn_components.specs.Listing.{LaidParts}
-use Rattle.xn_components.proofs.LaidBelow.{AreLaidBelow, laid_more, laid_none, laid_passed, list_apart, shares_nothing}
+use Rattle.xn_components.proofs.LaidBelow.{laid_more, laid_none, laid_passed, list_apart, shares_nothing}
 use Rattle.xn_planar.proofs.deciding.extend_each.Goals.{then-not-marks-s+in_ok-list+in_ok-map+in-Flat+in_ok-laid-in-Flat, else-not-marks-s}
 use Rattle.xn_planar.proofs.deciding.extend_each.Goals as goal
 

@@ -1,4 +1,4 @@
-use Rattle.std.proofs.Common.{List, ℕ, sym, subst, ◌∙◌}
+use Rattle.std.proofs.Common.{sym, subst, ◌∙◌}
 use Rattle.xn_model.specs.Graph.{Graph, HasNoLoop}
 use Rattle.xn_genus.specs.Part.{AreSegmentsApart}
 use Rattle.xn_components.proofs.LaidBelow.{no_loop_listed}

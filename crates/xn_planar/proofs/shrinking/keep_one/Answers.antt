@@ -1,4 +1,4 @@
-use Rattle.std.proofs.Common.{◌≡◌, ◌-◌, suc, ℕ, List, sym, subst, arith}
+use Rattle.std.proofs.Common.{◌≡◌, ◌-◌, suc, sym, subst, arith}
 use Rattle.xn_planar.specs.Leaving.{AreLeft, IsLeastFront}
 use Rattle.xn_planar.proofs.Dropped.{left_down, left_more}
 use Rattle.xn_planar.proofs.shrinking.keep_one.Goals as goal

@@ -1,4 +1,4 @@
-use Rattle.std.proofs.Common.{◌≡◌, ℕ, List, subst, arith}
+use Rattle.std.proofs.Common.{◌≡◌, subst, arith}
 use Rattle.xn_planar.specs.Leaving.{AreLeft}
 use Rattle.xn_planar.proofs.Dropped.{core_left, left_first}
 use Rattle.xn_planar.proofs.shrinking.left_over.Goals as goal
