@@ -35,10 +35,10 @@ IsDecision web (decision.Flat map) = IsFlatMapOf web map
 IsDecision web (decision.Refuted evidence) = Refutes web evidence
 IsDecision web decision.NoMap = HasNoFlatMap web
 
--- whether there is one
-abbrev pub IsAnswer : Graph → Bool → Type 0
-IsAnswer web true = HasFlat web.nodes web.ends
-IsAnswer web false = HasNoFlatMap web
+-- the answer tells whether there is one
+abbrev pub TellsWhetherFlat : Graph → Bool → Type 0
+TellsWhetherFlat web true = HasFlat web.nodes web.ends
+TellsWhetherFlat web false = HasNoFlatMap web
 
 -- evidence for the web, if the listed segments are a core
 abbrev pub IsEvidenceWithin : Graph → List ℕ → Option Evidence → Type 0

@@ -2,7 +2,7 @@
 ghost use Rattle.std.specs.Prelude.{◌≡◌, ◌<◌, IfOk, false, length, replicate};
 ghost use Rattle.xn_model.specs.Graph.{HasNoLoop};
 ghost use Rattle.xn_components.specs.Incidence.{IsIncidence};
-ghost use Rattle.xn_planar.specs.Planar.{IsAnswer, IsDecision};
+ghost use Rattle.xn_planar.specs.Planar.{IsDecision, TellsWhetherFlat};
 
 use crate::cores::core_of;
 use crate::renaming::evidence_within;
@@ -29,7 +29,7 @@ pub enum Decision {
 /// Whether a web without loops has a flat map.
 pub fn has_flat_map(alloc: Global, web: &Web) -> Result<bool, AllocError>
     requires { HasNoLoop web.now.ends }
-    ensures { IfOk result (IsAnswer web.now) }
+    ensures { IfOk result (TellsWhetherFlat web.now) }
 {
     match decide(alloc, web)? {
         Decision::Flat(_) => Ok(true),

@@ -4,7 +4,7 @@ ghost use Rattle.xn_model.specs.Graph.{HasNoLoop};
 ghost use Rattle.xn_genus.specs.Part.{AreSegmentsApart};
 ghost use Rattle.xn_extend.specs.Extended.{listed_web};
 ghost use Rattle.xn_planar.specs.Leaving.{AreLeft, IsLeastFront, IsLeftOver, IsMinimal, from_front};
-ghost use Rattle.xn_planar.specs.Planar.{HasNoFlatMap, IsAnswer};
+ghost use Rattle.xn_planar.specs.Planar.{HasNoFlatMap, TellsWhetherFlat};
 
 use crate::deciding::has_flat_map;
 use std::alloc::{AllocError, Global};
@@ -22,11 +22,11 @@ pub enum MinimalWeb {
     Core(Sequence<u32>),
 }
 
-/// A core of a web without loops, if it has no flat map: from the last segment to the first, each is left out without which
-/// the rest has no flat map. What stays is a subdivision of K5 or of K3,3 (Kuratowski 1930).
+/// A core of a web without loops, if it has no flat map: from the last segment to the first, each is left out without
+/// which the rest has none. What stays is a subdivision of K5 or of K3,3 (Kuratowski 1930).
 ///
-/// Each segment that stays takes a planarity test, and where n segments go, about twice the binary logarithm of n more. It
-/// fails only for want of memory.
+/// Each segment that stays takes a planarity test, and where n segments go, about twice the binary logarithm of n more.
+/// It fails only for want of memory.
 pub fn minimal(alloc: Global, web: &Web) -> Result<MinimalWeb, AllocError>
     requires { HasNoLoop web.now.ends }
     ensures { IfOk result (IsMinimal web.now) }
@@ -38,8 +38,8 @@ pub fn minimal(alloc: Global, web: &Web) -> Result<MinimalWeb, AllocError>
     Ok(MinimalWeb::Core(Sequence::new(core)))
 }
 
-/// The segments of a web without a flat map that stay, where from the last to the first each is left out without which the
-/// rest has none. They rise.
+/// The segments of a web without a flat map that stay, where from the last to the first each is left out without which
+/// the rest has none. They rise.
 pub fn left_over(alloc: Global, web: &Web) -> Result<Vec<u32>, AllocError>
     requires no_loop { HasNoLoop web.now.ends }
     requires none { HasNoFlatMap web.now }
@@ -71,7 +71,7 @@ fn keep_one(alloc: Global, web: &Web, kept: &mut Vec<u32>, front: u32) -> Result
     Ok(least - 1)
 }
 
-// The least number of first segments, of at most this many, that have no flat map with those that stay. More have none then.
+// The least number of first segments, of at most this many, that have no flat map with those that stay.
 fn least_front(alloc: Global, web: &Web, kept: &[u32], most: u32) -> Result<u32, AllocError>
     requires no_loop { HasNoLoop web.now.ends }
     requires left { AreLeft web.now most kept.now }
@@ -109,7 +109,7 @@ fn between(low: u32, high: u32, step: u32) -> u32
 fn has_flat_front(alloc: Global, web: &Web, kept: &[u32], front: u32) -> Result<bool, AllocError>
     requires no_loop { HasNoLoop web.now.ends }
     requires apart { AreSegmentsApart web.now.ends (from_front front kept.now) }
-    ensures { IfOk result (IsAnswer (listed_web web.now (from_front front kept.now))) }
+    ensures { IfOk result (TellsWhetherFlat (listed_web web.now (from_front front kept.now))) }
 {
     let list = with_front(alloc, front, kept)?;
     let listed = listed_web(alloc, web, &list)?;
