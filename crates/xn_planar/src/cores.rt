@@ -11,8 +11,8 @@ use xn_dmp::{Attempt, Jam, try_embed};
 use xn_extend::listed_web;
 use xn_graph::Web;
 
-/// Segments at which embedding by paths gets stuck, where no chain can be left out. It begins with the block of the jam,
-/// and leaves out many chains before few, then one by one. The list rises.
+/// Segments at which embedding by paths gets stuck, where no chain can be left out. It begins with the block of the
+/// jam, and leaves out many chains before few, then one by one. The list rises.
 ///
 /// The contract says only that the segments are different: what they show is tested later.
 pub fn core_of(alloc: Global, web: &Web, jam: &Jam) -> Result<Vec<u32>, AllocError>
