@@ -1,0 +1,5 @@
+pub mod Agreeing
+pub mod Apart
+pub mod Drawn
+pub mod Lists
+pub mod WalksApart
