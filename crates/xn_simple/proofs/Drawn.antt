@@ -2,7 +2,6 @@
 use Rattle.std.proofs.Common.{◌≡◌, ◌≢◌, ℕ, zero, suc, ◌+◌, ◌*◌, ◌<◌, ◌≤◌, inl, inr, Bool, true, List, [], ◌∷◌, ◌++◌, length, map, refl, sym, ◌∙◌, ap, subst, arith, length-append}
 use Rattle.std.specs.List.{IsDistinct, flat_map}
 use Rattle.std.specs.Prelude.{nat_eq}
-use Rattle.std.proofs.lemmas.List.{length-map}
 use Rattle.xn_model.specs.Graph.{Graph, IsGraph, ends_at}
 use Rattle.xn_model.specs.Lists.{at, has}
 use Rattle.xn_model.specs.Map.{IsFlat, IsMap, reverse_of, tail_of}
@@ -14,6 +13,7 @@ use Rattle.xn_genus.proofs.Part.{passes_over}
 use Rattle.xn_ring.proofs.Orbits.{source_of}
 use Rattle.xn_fewer.proofs.Has.{has-first, has-later}
 use Rattle.xn_fewer.proofs.Rising.{distinct-rising, rising-from_increasing}
+use Rattle.xn_orders.proofs.Limits.{length-segments_of}
 use Rattle.xn_track.specs.Cutting.{TurnsAsRuns, run_dart}
 use Rattle.xn_track.specs.Tidying.{IsDrawingOfEdges, is_met, order_along}
 use Rattle.xn_track.specs.Track.{IsTrack, MeetSimply, passed}
@@ -22,7 +22,6 @@ use Rattle.xn_track.proofs.Passes.{along_even, along_odd, begin, is_part, over_s
 use Rattle.xn_track.proofs.Runs.{runs_from}
 use Rattle.xn_track.proofs.Tidy.{cut, drawing, tidied}
 use Rattle.xn_loose.specs.Webs.{walk_in_web}
-use Rattle.xn_loose.proofs.InWeb.{through-length}
 use Rattle.xn_loose.proofs.Webs.{W-length, all_at, seam_tails, seg_at}
 use Rattle.xn_simple.specs.Crossed.{crossed_from, crossed_order, runs_straight, starts_after, starts_along}
 use Rattle.xn_simple.specs.Turning.{AreStarts, TurnsAlong}
@@ -89,15 +88,10 @@ module _ (g : Graph) (edges : List ℕ) (ord : ℕ → List ℕ) (next : ℕ →
 
   -- ---- how many there are
 
-  segments-length : (o : ℕ → List ℕ) (e : ℕ) → length (segments_of g (crossings_of edges o) o e) ≡ suc (length (o e))
-  segments-length o e =
-      through-length (ends_at g.ends e).0 (map (crossing_node g.nodes (crossings_of edges o) e) (o e)) (ends_at g.ends e).1
-      ∙ ap suc (length-map (o e) (crossing_node g.nodes (crossings_of edges o) e))
-
   starts_long : length starts ≡ 2 * length drawn.ends
   starts_long = flat_map-length (λ e. starts_along next (F e) (ord e)) (segments_of g (crossings_of edges along) along) 2 edges (λ e e_in.
       let one = starts_after-length next (F e) (ord e) in
-      let two = segments-length along e in
+      let two = length-segments_of g (crossings_of edges along) along e in
       let three : length (along e) ≡ length (crossed_from next (F e) (ord e)) = ap (λ o. length (o e)) (order_same g edges ord next is_graph orders flat) in
       omega (arith, one, two, three))
 
@@ -105,7 +99,7 @@ module _ (g : Graph) (edges : List ℕ) (ord : ℕ → List ℕ) (next : ℕ →
   walks_long =
       let same = flat_map-length W (segments_of g (crossings_of edges ord) ord) 1 edges (λ e e_in.
       let one = W-length g edges ord next is_graph orders flat e in
-      let two = segments-length ord e in
+      let two = length-segments_of g (crossings_of edges ord) ord e in
       omega (arith, one, two)) in
       omega (arith, same)
 

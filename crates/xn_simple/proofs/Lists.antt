@@ -98,11 +98,11 @@ module _ (next : ℕ → ℕ) where
 
 abbrev pub darts_of_runs : List (ℕ × ℕ) → List ℕ
 darts_of_runs [] = []
-darts_of_runs (r ∷ rs) = 2 * r.0 ∷ 2 * r.1 + 1 ∷ darts_of_runs rs
+darts_of_runs (r ∷ rs) = (2 * r.0) ∷ (2 * r.1 + 1) ∷ darts_of_runs rs
 
 pub darts_of_runs-append : (rs ss : List (ℕ × ℕ)) → darts_of_runs (rs ++ ss) ≡ darts_of_runs rs ++ darts_of_runs ss
 darts_of_runs-append [] ss = refl
-darts_of_runs-append (r ∷ rs) ss = ap (λ ds. 2 * r.0 ∷ 2 * r.1 + 1 ∷ ds) (darts_of_runs-append rs ss)
+darts_of_runs-append (r ∷ rs) ss = ap (λ ds. (2 * r.0) ∷ (2 * r.1 + 1) ∷ ds) (darts_of_runs-append rs ss)
 
 pub darts_of_all : (f : ℕ → List (ℕ × ℕ)) (h : ℕ → List ℕ) (es : List ℕ) → ((e : ℕ) → has es e ≡ true → darts_of_runs (f e) ≡ h e) → darts_of_runs (flat_map f es) ≡ flat_map h es
 darts_of_all f h [] same = refl
@@ -134,7 +134,7 @@ run_at rs x x_in =
 
 -- the runs of an edge begin and end with the darts along it
 pub runs_along : (next : ℕ → ℕ) (stop : ℕ → Bool) (vs fs : List ℕ) (b s : ℕ) → length vs ≡ length fs → ((i : ℕ) → i < length fs → stop (at vs i) ≡ runs_straight next (s + i)) →
-    darts_of_runs (runs_from stop b s vs) ≡ 2 * b ∷ starts_after next s fs
+    darts_of_runs (runs_from stop b s vs) ≡ (2 * b) ∷ starts_after next s fs
 runs_along next stop [] [] b s size tests = refl
 runs_along next stop [] (f ∷ fs) b s size tests = absurd (omega (arith, size))
 runs_along next stop (v ∷ vs) [] b s size tests = absurd (omega (arith, size))
@@ -144,6 +144,6 @@ runs_along next stop (v ∷ vs) (f ∷ fs) b s size tests =
     let later : (i : ℕ) → i < length fs → stop (at vs i) ≡ runs_straight next (suc s + i) =
     λ i i_in. let on : s + suc i ≡ suc s + i = omega arith in tests (suc i) (omega (arith, i_in)) ∙ ap (runs_straight next) on in
     elim (cases_Bool (stop v)) [
-      | inl stops ↦ rw (stops, sym here ∙ stops) (ap (λ ds. 2 * b ∷ 2 * s + 1 ∷ ds) (runs_along next stop vs fs (suc s) (suc s) (omega (arith, size)) later))
+      | inl stops ↦ rw (stops, sym here ∙ stops) (ap (λ ds. (2 * b) ∷ (2 * s + 1) ∷ ds) (runs_along next stop vs fs (suc s) (suc s) (omega (arith, size)) later))
       | inr goes ↦ rw (goes, sym here ∙ goes) (runs_along next stop vs fs b (suc s) (omega (arith, size)) later)
     ]

@@ -22,13 +22,13 @@ crossed_lists next s (l ∷ ls) = crossed_from next s l ∷ crossed_lists next (
 
 -- along an edge, from the end of its segment s on: both darts at each crossing, and the last dart
 abbrev pub starts_after : (ℕ → ℕ) → ℕ → List ℕ → List ℕ
-starts_after next s [] = 2 * s + 1 ∷ []
+starts_after next s [] = (2 * s + 1) ∷ []
 starts_after next s (f ∷ fs) =
-    if runs_straight next s then 2 * s + 1 ∷ 2 * suc s ∷ starts_after next (suc s) fs else starts_after next (suc s) fs
+    if runs_straight next s then (2 * s + 1) ∷ (2 * suc s) ∷ starts_after next (suc s) fs else starts_after next (suc s) fs
 
 -- the darts of an edge whose segments begin with s, at its ends and its crossings
 abbrev pub starts_along : (ℕ → ℕ) → ℕ → List ℕ → List ℕ
-starts_along next s list = 2 * s ∷ starts_after next s list
+starts_along next s list = (2 * s) ∷ starts_after next s list
 
 -- those of all edges with these lists
 abbrev pub starts_of : (ℕ → ℕ) → ℕ → List (List ℕ) → List ℕ

@@ -1,5 +1,5 @@
 // The lists of the edges that cross and don't touch.
-ghost use Rattle.std.specs.Prelude.{◌≡◌, ◌+◌, ◌*◌, ◌^◌, ◌<◌, ◌≤◌, suc, length, IfOk};
+ghost use Rattle.std.specs.Prelude.{◌≡◌, ◌++◌, ◌+◌, ◌*◌, ◌^◌, ◌<◌, ◌≤◌, suc, length, IfOk, OnOk};
 ghost use Rattle.xn_model.specs.Lists.{at, total};
 ghost use Rattle.xn_simple.specs.Crossed.{crossed_from, crossed_lists, runs_straight};
 
@@ -7,20 +7,24 @@ use std::alloc::{AllocError, Global};
 use xn_kinds::Orders;
 use xn_map::Map;
 
-/// For each edge those of its list that cross it, and don't touch.
-pub fn crossed(alloc: Global, orders: &Orders, map: &Map) -> Result<Orders, AllocError>
+/// Appends for each edge those of its list that cross it, and don't touch.
+pub fn push_crossed(
+    alloc: Global,
+    crossed: &mut Orders,
+    orders: &Orders,
+    map: &Map,
+) -> Result<(), AllocError>
     requires few { length map.now.next ≤ 2 ^ 31 }
     requires darts { length map.now.next ≡ 2 * (length orders.now + total length orders.now) }
-    ensures { IfOk result (λ crossed. crossed ≡ crossed_lists (at map.now.next) 0 orders.now) }
+    ensures { OnOk result (crossed.new ≡ crossed.old ++ crossed_lists (at map.now.next) 0 orders.now) }
 {
-    let mut crossed = Orders::new(Vec::new(alloc));
     let mut first = 0;
     for e in 0..orders.len() {
         let list = orders.at(e);
         crossed.push(crossed_by(alloc, map, first, list)?)?;
         first += list.len() as u32 + 1;
     }
-    Ok(crossed)
+    Ok(())
 }
 
 // Those of the list of an edge that cross it. Its segments begin with `first`.

@@ -14,6 +14,16 @@ pub fn turns_along(alloc: Global, map: &Map, starts: &[u32]) -> Result<Vec<u32>,
 {
     let mut places = vec![in alloc; 0; 2 * map.web().segments() as usize]?;
     fill_places(places.as_mut_slice(), starts);
+    turns_by(alloc, map, starts, &places)
+}
+
+// The place of the dart that comes next after each listed one.
+fn turns_by(alloc: Global, map: &Map, starts: &[u32], places: &[u32]) -> Result<Vec<u32>, AllocError>
+    requires starts { AreStarts (length map.now.next) (at map.now.next) starts.now }
+    requires places { HoldPlaces starts.now places.now }
+    requires darts { length places.now ≡ length map.now.next }
+    ensures { IfOk result (λ turns. TurnsAlong (at map.now.next) starts.now turns.items) }
+{
     let mut turns = Vec::new(alloc);
     for d in starts {
         turns.push(places[map.next(*d) as usize])?;
