@@ -80,13 +80,13 @@ module _ (next : ℕ → ℕ) where
             let Q : ℕ → Type 0 = λ k. P (2 * k + 1) × P (2 * suc k) in
             let here : P (2 * s + 1) × P (2 * suc s) = subst Q zero_s (each 0 (omega arith) (ap (runs_straight next) zero_s ∙ crosses)) in
             let low = rw crosses at x_in in
-            rw crosses (both here.0 here.1 rest x low)
+            rw crosses (both (starts_after next (suc s) fs) here.0 here.1 rest x low)
       ]
     where
-      both : {d e : ℕ} {ds : List ℕ} → P d → P e → ((x : ℕ) → x < length ds → P (at ds x)) → (x : ℕ) → x < length (d ∷ e ∷ ds) → P (at (d ∷ e ∷ ds) x)
-      both one two rest zero x_in = one
-      both one two rest (suc zero) x_in = two
-      both one two rest (suc (suc x)) x_in = rest x (omega (arith, x_in))
+      both : {d e : ℕ} (ds : List ℕ) → P d → P e → ((x : ℕ) → x < length ds → P (at ds x)) → (x : ℕ) → x < length (d ∷ e ∷ ds) → P (at (d ∷ e ∷ ds) x)
+      both ds one two rest zero x_in = one
+      both ds one two rest (suc zero) x_in = two
+      both ds one two rest (suc (suc x)) x_in = rest x (omega (arith, x_in))
 
   pub each_along : (P : ℕ → Type 0) (s : ℕ) (fs : List ℕ) → P (2 * s) →
       ((i : ℕ) → i < length fs → runs_straight next (s + i) ≡ true → P (2 * (s + i) + 1) × P (2 * suc (s + i))) →

@@ -1,7 +1,8 @@
 -- One step of each loop over the lists.
 use Rattle.std.proofs.Common.{◌≡◌, ◌≢◌, ℕ, suc, ◌+◌, ◌-◌, ◌*◌, ◌<◌, ◌≤◌, inl, inr, Bool, true, false, List, [], ◌∷◌, ◌++◌, length, get_or, drop, refl, sym, ◌∙◌, ap, ap₂, subst, arith, append_assoc, drop-cons, drop_of_length-le, length-append}
 use Rattle.std.proofs.lemmas.Bool.{cases_eq, cond-true, cond-false}
-use Rattle.std.proofs.lemmas.List.{get_or_append_left, get_or_append_seam}
+use Rattle.std.proofs.lemmas.List.{get_or_append_left}
+use Rattle.std.proofs.Math.Seq.{get_or-append_seam}
 use Rattle.xn_model.specs.Lists.{at, total}
 use Rattle.xn_simple.specs.Crossed.{crossed_from, crossed_lists, runs_straight, starts_after, starts_along, starts_of}
 use Rattle.xn_simple.specs.Turning.{AreStarts, HoldPlaces}
@@ -82,7 +83,7 @@ module _ (next : ℕ → ℕ) where
       done ++ (2 * (first + length list) + 1) ∷ [] ≡ all
   starts-end done list first s all last before =
       ap (λ k. done ++ (2 * k + 1) ∷ []) (sym last)
-      ∙ ap (λ xs. done ++ starts_after next s xs) (sym (drop_of_length-le list (s - first) (omega (arith, last)))) ∙ before
+      ∙ ap (λ xs. done ++ starts_after next s xs) (sym (drop_of_length-le {i = s - first} list (omega (arith, last)))) ∙ before
 
   pub starts-more : (done : List ℕ) (lists : List (List ℕ)) (l : List ℕ) (first e : ℕ) (all : List ℕ) → e < length lists → l ≡ get_or lists e [] →
       done ++ starts_of next first (drop e lists) ≡ all →
@@ -110,7 +111,7 @@ module _ (next : ℕ → ℕ) where
       let y = are.closed d d_in in
       let new = turns ++ get_or places n 0 ∷ [] in
       let v_is : get_or places n 0 ≡ y.0 = ap (at places) (n_is ∙ sym y.2) ∙ held y.0 y.1 in
-      let last : at new d ≡ y.0 = ap (at new) (sym size) ∙ get_or_append_seam turns (get_or places n 0) [] 0 ∙ v_is in
+      let last : at new d ≡ y.0 = ap (at new) (sym size) ∙ get_or-append_seam turns (get_or places n 0) [] 0 ∙ v_is in
       let before : (x : ℕ) → x < d → at new x ≡ at turns x = λ x low. get_or_append_left turns (get_or places n 0 ∷ []) 0 x (omega (arith, low, size)) in
       record {
         size = let sum = length-append turns (get_or places n 0 ∷ []) in omega (arith, sum, size);
