@@ -83,7 +83,7 @@ module _ (next : ℕ → ℕ) where
       done ++ (2 * (first + length list) + 1) ∷ [] ≡ all
   starts-end done list first s all last before =
       ap (λ k. done ++ (2 * k + 1) ∷ []) (sym last)
-      ∙ ap (λ xs. done ++ starts_after next s xs) (sym (drop_of_length-le {i = s - first} list (omega (arith, last)))) ∙ before
+      ∙ ap (λ xs. done ++ starts_after next s xs) (sym (drop_of_length-le list {i = s - first} (omega (arith, last)))) ∙ before
 
   pub starts-more : (done : List ℕ) (lists : List (List ℕ)) (l : List ℕ) (first e : ℕ) (all : List ℕ) → e < length lists → l ≡ get_or lists e [] →
       done ++ starts_of next first (drop e lists) ≡ all →
