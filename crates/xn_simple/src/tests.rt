@@ -51,15 +51,20 @@ fn untouched(
     let graph = Graph::make(nodes, Vec::from_slice(alloc, ends)?)?;
     let edges = graph.all_edges(alloc)?;
     let orders = orders(alloc, graph.edges(), pairs)?;
-    if orders.len() != edges.len() || orders_flaw(alloc, &graph, &edges, &orders)?.is_some() {
-        return Err("no orders")?;
+    if orders.len() != edges.len() {
+        return Err("lists of another number")?;
     }
-    let web = planarise(alloc, &graph, &edges, &orders)?;
-    let map = Map::make(alloc, web, turns)?;
-    if !map.is_flat(alloc)? {
-        return Err("not flat")?;
+    match orders_flaw(alloc, &graph, &edges, &orders)? {
+        Some(_) => Err("no orders")?,
+        None => {
+            let web = planarise(alloc, &graph, &edges, &orders)?;
+            let map = Map::make(alloc, web, turns)?;
+            if !map.is_flat(alloc)? {
+                return Err("not flat")?;
+            }
+            Ok(untouch(alloc, &graph, &orders, map)?)
+        }
     }
-    Ok(untouch(alloc, &graph, &orders, map)?)
 }
 
 /// Whether a drawing has these lists, each pair an edge and the next in its list, and these turns.
