@@ -6,17 +6,7 @@ use Rattle.xn_model.specs.Map.{IsMap, tail_of}
 use Rattle.xn_track.specs.Track.{IsGround}
 use Rattle.xn_track.proofs.Relink.{a_to_b, after_far, at_node, c_to_d, fewer, fewer_far, is_split, split_ends, split_turns, tail_a, tail_c, tail_far}
 use Rattle.xn_loose.proofs.Touch.{IsKept}
-
--- a dart stands where it stood, or at a new node, and then its old one is no longer named; at nodes that are named, and at
--- the first ones, it turns as before; at a further node that isn't, it turns to a neighbour that it had
-pub record ComesFrom (n : ℕ) (web : Graph) (next : ℕ → ℕ) (more : Graph) (after : ℕ → ℕ) (four : ℕ → Bool) : Type 0 where
-  pub size : length more.ends ≡ length web.ends
-  pub nodes : web.nodes ≤ more.nodes
-  pub old : (v : ℕ) → four v ≡ true → v < web.nodes
-  pub tails : (d : ℕ) → d < 2 * length web.ends →
-      (tail_of more.ends d ≡ tail_of web.ends d) ⊎ ((web.nodes ≤ tail_of more.ends d) × (n ≤ tail_of web.ends d) × (four (tail_of web.ends d) ≡ false))
-  pub turns : (d : ℕ) → d < 2 * length web.ends → (tail_of web.ends d < n) ⊎ (four (tail_of web.ends d) ≡ true) → after d ≡ next d
-  pub bends : (d : ℕ) → d < 2 * length web.ends → n ≤ tail_of web.ends d → four (tail_of web.ends d) ≡ false → (after d ≡ next d) ⊎ (next (after d) ≡ d)
+use Rattle.xn_simple.specs.Loosened.{ComesFrom}
 
 -- at a node that is named each dart stands where it stood
 pub named : (n : ℕ) (web : Graph) (next : ℕ → ℕ) (more : Graph) (after : ℕ → ℕ) (four : ℕ → Bool) → ComesFrom n web next more after four →

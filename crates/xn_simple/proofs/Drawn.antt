@@ -27,7 +27,7 @@ use Rattle.xn_simple.specs.Crossed.{crossed_from, crossed_order, runs_straight, 
 use Rattle.xn_simple.specs.Turning.{AreStarts, TurnsAlong}
 use Rattle.xn_simple.specs.Untouched.{IsUntouched, TouchingEdgesComeApart, starts_in}
 use Rattle.xn_simple.proofs.Agreeing.{drawing-agrees}
-use Rattle.xn_simple.proofs.Apart.{ComesFrom}
+use Rattle.xn_simple.specs.Loosened.{ComesFrom}
 use Rattle.xn_simple.proofs.Lists.{darts_of_all, darts_of_runs, each_along, run_at, runs_along, starts_after-length}
 use Rattle.xn_simple.proofs.WalksApart.{begins, ends_stand, inner_length, order_same, simply, smoothed, straight_stands, test_is}
 

@@ -4,5 +4,6 @@ pub mod Apart
 pub mod Drawn
 pub mod Listed
 pub mod Lists
+pub mod Loosened
 pub mod Steps
 pub mod WalksApart

@@ -27,7 +27,8 @@ use Rattle.xn_loose.proofs.InWeb.{at_position, darts_at}
 use Rattle.xn_loose.proofs.Touch.{Smoothed, mesh_smoothed}
 use Rattle.xn_loose.proofs.Webs.{W-length, W_place, first_tail, last_tail, seam_tails, seg_at, webs_are_meshes}
 use Rattle.xn_simple.specs.Crossed.{crossed_from, crossed_order, runs_straight}
-use Rattle.xn_simple.proofs.Apart.{ComesFrom, is_kept, named, named_from}
+use Rattle.xn_simple.specs.Loosened.{ComesFrom}
+use Rattle.xn_simple.proofs.Apart.{is_kept, named, named_from}
 use Rattle.xn_simple.proofs.Lists.{distinct_by_places, none_in, picked_is}
 
 module _ (g : Graph) (edges : List ℕ) (ord : ℕ → List ℕ) (next : ℕ → ℕ) (is_graph : IsGraph g) (orders : IsOrders g.ends edges ord)

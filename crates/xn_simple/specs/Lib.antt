@@ -1,3 +1,4 @@
 pub mod Crossed
+pub mod Loosened
 pub mod Turning
 pub mod Untouched

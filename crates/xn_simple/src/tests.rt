@@ -71,13 +71,13 @@ fn untouched(
 fn is(
     alloc: Global,
     drawing: &Drawing,
-    pairs: &[(u32, u32)],
+    pairs: &[(usize, u32)],
     turns: &[u32],
 ) -> Result<bool, AllocError> {
     let mut found = Vec::new(alloc);
     for e in 0..drawing.orders.len() {
         for f in drawing.orders.at(e) {
-            found.push((e as u32, *f))?;
+            found.push((e, *f))?;
         }
     }
     Ok(found.as_slice() == pairs && drawing.next.as_slice() == turns)
@@ -85,9 +85,8 @@ fn is(
 
 #[test]
 fn k5_keeps_its_crossing(rt: HostRuntime) -> Result<(), Fail> {
-    let pairs = [(0, 9), (9, 0)];
-    let drawing = untouched(rt.alloc(), 5, &K5, &pairs, &K5_TURNS)?;
-    assert!(rt; is(rt.alloc(), &drawing, &pairs, &K5_TURNS)?);
+    let drawing = untouched(rt.alloc(), 5, &K5, &[(0, 9), (9, 0)], &K5_TURNS)?;
+    assert!(rt; is(rt.alloc(), &drawing, &[(0, 9), (9, 0)], &K5_TURNS)?);
     Ok(())
 }
 
@@ -98,7 +97,7 @@ fn two_edges_that_touch_come_apart(rt: HostRuntime) -> Result<(), Fail> {
     let touches = [0, 2, 5, 3, 4, 6, 1, 7];
     let turned = [0, 6, 1, 3, 4, 2, 5, 7];
     let one = untouched(rt.alloc(), 4, &[(0, 1), (2, 3)], &pairs, &crosses)?;
-    assert!(rt; is(rt.alloc(), &one, &pairs, &crosses)?);
+    assert!(rt; is(rt.alloc(), &one, &[(0, 1), (1, 0)], &crosses)?);
     let two = untouched(rt.alloc(), 4, &[(0, 1), (2, 3)], &pairs, &touches)?;
     assert!(rt; is(rt.alloc(), &two, &[], &[0, 1, 2, 3])?);
     let three = untouched(rt.alloc(), 4, &[(1, 0), (2, 3)], &pairs, &turned)?;
