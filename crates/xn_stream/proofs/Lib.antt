@@ -1,0 +1,4 @@
+pub mod Apart
+pub mod Come
+pub mod Taking
+pub mod TextLines
