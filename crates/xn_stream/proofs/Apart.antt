@@ -49,22 +49,22 @@ module _ {S A : Type 0} (rules : Rules S A) (clear : (s : S) (x : Item) (kind : 
   not_both : (lines others : List (List ℕ)) (a at by : Reached) (u s t : S) (begun rest : List ℕ) (flaw : Flaw) → All (Lacks 10) lines → All (Lacks 10) others →
       LeadTo rules a u lines at s → LeadTo rules a u others by t → Lacks 10 begun → (is_end at.1 ≡ true → begun ≡ []) →
       whole_lines lines ++ begun ≡ whole_lines others ++ rest → FailsNext rules by t rest flaw → ⊥
-  not_both [] [] a at by u s t begun rest flaw lack lacks lead leads open none same fails =
+  not_both [] [] a at by u s t begun rest flaw lack lacks lead leads lacks_ten none same fails =
       let at_is : at ≡ by = lead.0 ∙ sym leads.0 in
-      open_fails by t begun rest flaw open (subst (λ (b : Reached). is_end b.1 ≡ true → begun ≡ []) at_is none) same fails
-  not_both [] (o ∷ others) a at by u s t begun rest flaw lack lacks lead leads open none same fails =
-      none_ended begun o (whole_lines others ++ rest) open (same ∙ append_assoc o (10 ∷ whole_lines others) rest)
-  not_both (l ∷ lines) [] a at by u s t begun rest flaw lack lacks lead leads open none same fails =
+      open_fails by t begun rest flaw lacks_ten (subst (λ (b : Reached). is_end b.1 ≡ true → begun ≡ []) at_is none) same fails
+  not_both [] (o ∷ others) a at by u s t begun rest flaw lack lacks lead leads lacks_ten none same fails =
+      none_ended begun o (whole_lines others ++ rest) lacks_ten (same ∙ append_assoc o (10 ∷ whole_lines others) rest)
+  not_both (l ∷ lines) [] a at by u s t begun rest flaw lack lacks lead leads lacks_ten none same fails =
       let here : FailsNext rules a u rest flaw =
           subst (λ (b : Reached). FailsNext rules b u rest flaw) leads.0 (subst (λ (v : S). FailsNext rules by v rest flaw) leads.1 fails) in
       kept_fails a u l (whole_lines lines ++ begun) rest (λ b v. LeadTo rules b v lines at s) flaw (All-head (Lacks 10) l lines lack) lead
       (sym (append_assoc l (10 ∷ whole_lines lines) begun) ∙ same) here
-  not_both (l ∷ lines) (o ∷ others) a at by u s t begun rest flaw lack lacks lead leads open none same fails =
+  not_both (l ∷ lines) (o ∷ others) a at by u s t begun rest flaw lack lacks lead leads lacks_ten none same fails =
       let first = one_first l o (whole_lines lines ++ begun) (whole_lines others ++ rest) (All-head (Lacks 10) l lines lack) (All-head (Lacks 10) o others lacks)
           (sym (append_assoc l (10 ∷ whole_lines lines) begun) ∙ same ∙ append_assoc o (10 ∷ whole_lines others) rest) in
       let second = subst (λ (x : List ℕ). GoesOn rules u (next_at a (x, true)) (λ b v. LeadTo rules b v others by t)) (sym first.0) leads in
       both_go u (next_at a (l, true)) (λ b v. LeadTo rules b v lines at s) (λ b v. LeadTo rules b v others by t) lead second
-      (λ b v p q. not_both lines others b at by v s t begun rest flaw (All-tail (Lacks 10) l lines lack) (All-tail (Lacks 10) o others lacks) p q open none first.1 fails)
+      (λ b v p q. not_both lines others b at by v s t begun rest flaw (All-tail (Lacks 10) l lines lack) (All-tail (Lacks 10) o others lacks) p q lacks_ten none first.1 fails)
 
   pub no_flaw : (text begun : List ℕ) (at : Reached) (s : S) (flaw : Flaw) → HasCome rules text at s begun → HoldsFlaw rules text flaw → ⊥
   no_flaw text begun at s flaw come h =

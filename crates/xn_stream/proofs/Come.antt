@@ -4,7 +4,7 @@ use Rattle.std.proofs.lemmas.Bool.{cases_Bool}
 use Rattle.std.proofs.lemmas.List.Elements.{All-nil, All-cons, All-head, All-tail, All-append}
 use Rattle.std.specs.Prelude.{All, min}
 use Rattle.xn_kinds.specs.declared.flaws.Flaw.{Flaw}
-use Rattle.xn_text.specs.Pieces.{Lacks}
+use Rattle.xn_text.specs.Pieces.{Lacks, words_of}
 use Rattle.xn_proof.specs.Forms.{Line, Reached, is_end, next_at, rule_at, start_state, text_lines, words_at}
 use Rattle.xn_proof.specs.Reading.{◌>>=◌, syntax, trailing}
 use Rattle.xn_proof.specs.declared.flaw.AnswerErr.{AnswerErr}
@@ -31,12 +31,12 @@ behind false c d f w e = absurd cc
 pub behind_end : (at : Reached) (line : Line) → is_end at.1 ≡ true → next_at at line ≡ Err (trailing at.0)
 behind_end at line e = ap (next_by at.0) (behind (is_end at.1) line.1 (trailing at.0) (syntax at.0) _ e)
 
-open_line : (b : Bool) (d f : Flaw) (w : Result (Item × Place) Flaw) → b ≡ false → by_tests b false d f w ≡ Err f
-open_line true d f w e = absurd cc
-open_line false d f w e = refl
+last_line : (b : Bool) (d f : Flaw) (w : Result (Item × Place) Flaw) → b ≡ false → by_tests b false d f w ≡ Err f
+last_line true d f w e = absurd cc
+last_line false d f w e = refl
 
 pub not_ended : (at : Reached) (bytes : List ℕ) → is_end at.1 ≡ false → next_at at (bytes, false) ≡ Err (syntax at.0)
-not_ended at bytes e = ap (next_by at.0) (open_line (is_end at.1) (trailing at.0) (syntax at.0) _ e)
+not_ended at bytes e = ap (next_by at.0) (last_line (is_end at.1) (trailing at.0) (syntax at.0) (words_at at.1 at.0 (words_of bytes)) e)
 
 module _ {S A : Type 0} (rules : Rules S A) where
   -- ---- whole lines
@@ -227,6 +227,9 @@ module _ {S A : Type 0} (rules : Rules S A) where
   found_behind text bytes ended at later s t begun after r come e some took =
       stops_behind text (with_end bytes ended) at later s t begun after (bytes, ended) r come e some took
 
-  pub found_line : (text bytes line : List ℕ) (at later : Reached) (s t : S) (begun : List ℕ) (r : Result (Unit {0}) AnswerErr) → HasCome rules text at s begun →
-      Lacks 10 bytes → line ≡ begun ++ bytes → Took rules at s (line, true) later t r → Finds rules (text ++ with_end bytes true) later t [] r
-  found_line text bytes line at later s t begun r come lacks is took = line_comes text bytes line at later s t begun r come lacks is took
+  pub found_line : (text bytes line : List ℕ) (at later : Reached) (s t : S) (begun after : List ℕ) (r : Result (Unit {0}) AnswerErr) →
+      HasCome rules text at s begun → Lacks 10 bytes → line ≡ begun ++ bytes → after ≡ [] → Took rules at s (line, true) later t r →
+      Finds rules (text ++ with_end bytes true) later t after r
+  found_line text bytes line at later s t begun after r come lacks is none took =
+      subst (λ (x : List ℕ). Finds rules (text ++ with_end bytes true) later t x r) (sym none)
+      (line_comes text bytes line at later s t begun r come lacks is took)

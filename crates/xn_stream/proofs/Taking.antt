@@ -33,18 +33,18 @@ same_rules new old task = ap (λ (g : Graph). check_rules g new.loops) task.grap
 -- ---- the loop over the parts
 
 -- what a text has come to is what it has come to with the parts so far
-pub record IsTaken (old : Kept) (begun piece : List ℕ) (now : Kept) (open : List ℕ) (left : List ℕ) : Type 0 where
+pub record IsTaken (old : Kept) (begun piece : List ℕ) (now : Kept) (part : List ℕ) (left : List ℕ) : Type 0 where
   pub ready : IsReady now
   pub task : HaveOneTask now old
   pub done : List ℕ
   pub cut : done ++ left ≡ piece
-  pub comes : (text : List ℕ) → HasCome (rules_of old) text old.at (said_of old) begun → HasCome (rules_of old) (text ++ done) now.at (said_of now) open
+  pub comes : (text : List ℕ) → HasCome (rules_of old) text old.at (said_of old) begun → HasCome (rules_of old) (text ++ done) now.at (said_of now) part
 
 abbrev pub FindsPart : Kept → List ℕ → List ℕ → Bool → Kept → List ℕ → Result (Unit {0}) AnswerErr → Type 0
 FindsPart old begun bytes ended new after r =
     (text : List ℕ) → HasCome (rules_of old) text old.at (said_of old) begun → Finds (rules_of old) (text ++ with_end bytes ended) new.at (said_of new) after r
 
-module _ (old now new : Kept) (begun piece open after bytes : List ℕ) (ended : Bool) (left rest : List ℕ) (taken : IsTaken old begun piece now open left)
+module _ (old now new : Kept) (begun piece part after bytes : List ℕ) (ended : Bool) (left rest : List ℕ) (taken : IsTaken old begun piece now part left)
     (is : left ≡ with_end bytes ended ++ rest) where
   cut_on : (text : List ℕ) → (text ++ taken.done) ++ with_end bytes ended ≡ text ++ (taken.done ++ with_end bytes ended)
   cut_on text = append_assoc text taken.done (with_end bytes ended)
@@ -52,15 +52,15 @@ module _ (old now new : Kept) (begun piece open after bytes : List ℕ) (ended :
   all_on : (taken.done ++ with_end bytes ended) ++ rest ≡ piece
   all_on = append_assoc taken.done (with_end bytes ended) rest ∙ ap (λ (l : List ℕ). taken.done ++ l) (sym is) ∙ taken.cut
 
-  found : (r : Result (Unit {0}) AnswerErr) → FindsPart now open bytes ended new after r → (text : List ℕ) → HasCome (rules_of old) text old.at (said_of old) begun →
+  found : (r : Result (Unit {0}) AnswerErr) → FindsPart now part bytes ended new after r → (text : List ℕ) → HasCome (rules_of old) text old.at (said_of old) begun →
       Finds (rules_of old) (text ++ (taken.done ++ with_end bytes ended)) new.at (said_of new) after r
   found r finds text come =
       let same = same_rules now old taken.task in
-      let here = subst (λ (q : Rules Said (ℕ × ℕ)). HasCome q (text ++ taken.done) now.at (said_of now) open) (sym same) (taken.comes text come) in
+      let here = subst (λ (q : Rules Said (ℕ × ℕ)). HasCome q (text ++ taken.done) now.at (said_of now) part) (sym same) (taken.comes text come) in
       subst (λ (t : List ℕ). Finds (rules_of old) t new.at (said_of new) after r) (cut_on text)
       (subst (λ (q : Rules Said (ℕ × ℕ)). Finds q ((text ++ taken.done) ++ with_end bytes ended) new.at (said_of new) after r) same (finds (text ++ taken.done) here))
 
-  pub part_on : FindsPart now open bytes ended new after (Ok tt) → HaveOneTask new now → IsReady new → IsTaken old begun piece new after rest
+  pub part_on : FindsPart now part bytes ended new after (Ok tt) → HaveOneTask new now → IsReady new → IsTaken old begun piece new after rest
   part_on finds task ready = record {
     ready = ready;
     task = record { graph = task.graph ∙ taken.task.graph; loops = task.loops ∙ taken.task.loops };
@@ -69,7 +69,7 @@ module _ (old now new : Kept) (begun piece open after bytes : List ℕ) (ended :
     comes = found (Ok tt) finds;
   }
 
-  pub part_stops : (e : AnswerErr) → FindsPart now open bytes ended new after (Err e) → (text : List ℕ) → HasCome (rules_of old) text old.at (said_of old) begun →
+  pub part_stops : (e : AnswerErr) → FindsPart now part bytes ended new after (Err e) → (text : List ℕ) → HasCome (rules_of old) text old.at (said_of old) begun →
       Finds (rules_of old) (text ++ piece) new.at (said_of new) after (Err e)
   part_stops errors.Memory finds text come = tt
   part_stops (errors.Refused flaw) finds text come =
@@ -89,8 +89,12 @@ none_taken old begun piece ready = record {
 }
 
 -- behind the last
-pub all_taken : (old now : Kept) (begun piece open left : List ℕ) → IsTaken old begun piece now open left → left ≡ [] → (text : List ℕ) →
-    HasCome (rules_of old) text old.at (said_of old) begun → HasCome (rules_of old) (text ++ piece) now.at (said_of now) open
-all_taken old now begun piece open left taken empty text come =
+pub all_taken : (old now : Kept) (begun piece part left : List ℕ) → IsTaken old begun piece now part left → left ≡ [] → (text : List ℕ) →
+    HasCome (rules_of old) text old.at (said_of old) begun → HasCome (rules_of old) (text ++ piece) now.at (said_of now) part
+all_taken old now begun piece part left taken empty text come =
     let is : taken.done ≡ piece = sym (append-nil taken.done) ∙ ap (λ (l : List ℕ). taken.done ++ l) (sym empty) ∙ taken.cut in
-    subst (λ (d : List ℕ). HasCome (rules_of old) (text ++ d) now.at (said_of now) open) is (taken.comes text come)
+    subst (λ (d : List ℕ). HasCome (rules_of old) (text ++ d) now.at (said_of now) part) is (taken.comes text come)
+
+pub is_nil : (xs : List ℕ) → length xs ≡ 0 → xs ≡ []
+is_nil [] none = refl
+is_nil (x ∷ xs) none = absurd (omega (arith, none))

@@ -1,5 +1,5 @@
 // A piece is cut into parts of lines; a line is judged once it is ended.
-ghost use Rattle.std.specs.Prelude.{◌<◌, ◌++◌, IfOk, List, length};
+ghost use Rattle.std.specs.Prelude.{◌<◌, ◌++◌, ℕ, true, IfOk, List, length};
 ghost use Rattle.xn_text.specs.Pieces.{Lacks};
 ghost use Rattle.xn_check.specs.Judge.{HaveOneTask, IsReady, rules_of, said_of};
 ghost use Rattle.xn_stream.specs.Pieces.{Finds, HasCome, with_end};
@@ -48,13 +48,31 @@ fn take_part(
     if judge.is_at_end() {
         return judge.line(alloc, bytes, ended);
     }
-    if ended && begun.is_empty() {
+    if !ended {
+        begun.extend_from_slice(bytes)?;
+        return Ok(());
+    }
+    end_line(judge, begun, alloc, bytes)
+}
+
+// Judges the begun line, of which these are the last bytes.
+fn end_line(
+    judge: &mut Judge,
+    begun: &mut Vec<u8>,
+    alloc: Global,
+    bytes: &[u8],
+) -> Result<(), AnswerErr>
+    requires ready { IsReady judge.old }
+    requires lacks { Lacks 10 bytes.now }
+    ensures ready { IfOk result (λ _. IsReady judge.new) }
+    ensures task { HaveOneTask judge.new judge.old }
+    ensures finds { (text : List ℕ) → HasCome (rules_of judge.old) text judge.old.at (said_of judge.old) begun.old.items →
+        Finds (rules_of judge.old) (text ++ with_end bytes.now true) judge.new.at (said_of judge.new) begun.new.items result }
+{
+    if begun.is_empty() {
         return judge.line(alloc, bytes, true);
     }
     begun.extend_from_slice(bytes)?;
-    if !ended {
-        return Ok(());
-    }
     let result = judge.line(alloc, begun.as_slice(), true);
     begun.clear();
     result

@@ -1,5 +1,5 @@
 // The checker of a text that comes in pieces.
-ghost use Rattle.std.specs.Prelude.{◌≡◌, ◌≢◌, ◌++◌, [], Err, IfOk, List, Some};
+ghost use Rattle.std.specs.Prelude.{◌≡◌, ◌≢◌, ◌++◌, ℕ, [], Err, IfOk, List, Some};
 ghost use Rattle.std.specs.List.{flat_map};
 ghost use Rattle.xn_proof.specs.declared.flaw.AnswerErr.{AnswerErr};
 ghost use Rattle.xn_proof.specs.declared.flaw.AnswerErr.TheVariants.{Memory};
