@@ -2,6 +2,7 @@
 use Rattle.std.proofs.Common.{◌≡◌, ℕ, zero, suc, ◌<◌, Bool, true, false, cond, List, [], ◌∷◌, ◌++◌, length, take, drop, get_or, Result, Ok, Err, refl, sym, subst, ap, ◌∙◌, append_assoc, arith}
 use Rattle.std.specs.List.{flat_map}
 use Rattle.std.specs.Prelude.{Option, Some, None}
+use Rattle.xn_model.specs.Graph.{Graph}
 use Rattle.xn_kinds.specs.declared.flaws.Flaw.{Flaw}
 use Rattle.xn_proof.specs.Forms.{Reached, is_end}
 use Rattle.xn_proof.specs.Reading.{syntax}
@@ -98,3 +99,16 @@ pub whole_refused : (rules : Rules Said (ℕ × ℕ)) (e : AnswerErr) (text more
 whole_refused rules errors.Memory text more all refuses is = tt
 whole_refused rules (errors.Refused flaw) text more all refuses is =
     flaw_comes rules all flaw (subst (λ (t : List ℕ). HoldsFlaw rules t flaw) (sym is) (flaw_stays rules text more flaw refuses))
+
+pub pieces_refused : {X : Type 0} (f : X → List ℕ) (xs : List X) (i : ℕ) (x : X) (piece : List ℕ) (g : Graph) (loops : ℕ) (v : Stream) (e : AnswerErr) →
+    i < length xs → x ≡ get_or xs i x → piece ≡ f x → graph_kept v.judge ≡ g → v.judge.loops ≡ loops →
+    RefusesExactly (rules_in v) (flat_map f (take i xs) ++ piece) (Err e) → RefusesText (check_rules g loops) (flat_map f xs) e
+pieces_refused f xs i x piece g loops v e low here piece_is same_graph same_loops refuses =
+    let so_far = flat_map f (take i xs) in
+    let rest = flat_map f (drop (suc i) xs) in
+    let same : rules_in v ≡ check_rules g loops =
+        ap (λ (h : Graph). check_rules h v.judge.loops) same_graph ∙ ap (λ (l : ℕ). check_rules g l) same_loops in
+    let all : flat_map f xs ≡ (so_far ++ piece) ++ rest =
+        flat_cut f xs i x low ∙ ap (λ (b : List ℕ). (so_far ++ b) ++ rest) (sym (piece_is ∙ ap f here)) in
+    whole_refused (check_rules g loops) e (so_far ++ piece) rest (flat_map f xs)
+    (subst (λ (r : Rules Said (ℕ × ℕ)). RefusesExactly r (so_far ++ piece) (Err e)) same refuses) all

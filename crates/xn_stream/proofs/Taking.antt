@@ -12,6 +12,7 @@ use Rattle.xn_check.specs.Judging.{Rules}
 use Rattle.xn_check.specs.Said.{Said}
 use Rattle.xn_check.specs.Verdict.{check_rules}
 use Rattle.xn_stream.specs.Pieces.{Finds, HasCome, HoldsFlaw, with_end}
+use Rattle.xn_stream.specs.Stream.{LeadsOn}
 use Rattle.xn_stream.proofs.Come.{flaw_stays}
 
 -- a part of a line, and what is left
@@ -41,8 +42,7 @@ pub record IsTaken (old : Kept) (begun piece : List ℕ) (now : Kept) (part : Li
   pub comes : (text : List ℕ) → HasCome (rules_of old) text old.at (said_of old) begun → HasCome (rules_of old) (text ++ done) now.at (said_of now) part
 
 abbrev pub FindsPart : Kept → List ℕ → List ℕ → Bool → Kept → List ℕ → Result (Unit {0}) AnswerErr → Type 0
-FindsPart old begun bytes ended new after r =
-    (text : List ℕ) → HasCome (rules_of old) text old.at (said_of old) begun → Finds (rules_of old) (text ++ with_end bytes ended) new.at (said_of new) after r
+FindsPart old begun bytes ended new after r = LeadsOn old begun (with_end bytes ended) new after r
 
 module _ (old now new : Kept) (begun piece part after bytes : List ℕ) (ended : Bool) (left rest : List ℕ) (taken : IsTaken old begun piece now part left)
     (is : left ≡ with_end bytes ended ++ rest) where

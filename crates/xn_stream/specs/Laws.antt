@@ -10,7 +10,8 @@ use Rattle.xn_stream.specs.Pieces.{HasCome, HoldsFlaw}
 -- a flaw that the text so far holds is the verdict on it, whatever comes behind
 abbrev pub FlawsStay : Type 0
 FlawsStay =
-    (g : Graph) (loops : ℕ) (text more : List ℕ) (flaw : Flaw) → HoldsFlaw (check_rules g loops) text flaw → Verdict g loops (text ++ more) (Err flaw)
+    (g : Graph) (loops : ℕ) (text more : List ℕ) (flaw : Flaw) → HoldsFlaw (check_rules g loops) text flaw →
+    Verdict g loops (text ++ more) (Err flaw)
 
 -- a text holds one flaw at most
 abbrev pub HoldsOneFlaw : Type 0

@@ -1,11 +1,13 @@
 -- What a checker in pieces keeps, and which texts it stands for.
-use Rattle.std.specs.Prelude.{◌≡◌, ℕ, List, Option, Some, None, Result, Ok, Err}
+use Rattle.std.specs.Prelude.{◌≡◌, ◌≢◌, ℕ, List, ◌++◌, Option, Some, None, Result, Ok, Err}
 use Rattle.xn_proof.specs.declared.flaw.AnswerErr.{AnswerErr}
 use Rattle.xn_proof.specs.declared.flaw.AnswerErr.TheVariants as errors
-use Rattle.xn_check.specs.Judge.{IsReady, Kept, rules_of, said_of}
+use Rattle.xn_check.specs.Gives.{GivesVerdict}
+use Rattle.xn_check.specs.Judge.{IsReady, Kept, graph_kept, rules_of, said_of}
 use Rattle.xn_check.specs.Judging.{Rules}
 use Rattle.xn_check.specs.Said.{Said}
-use Rattle.xn_stream.specs.Pieces.{HasCome, HoldsFlaw}
+use Rattle.xn_check.specs.declared.verdicts.Accepted.{Accepted}
+use Rattle.xn_stream.specs.Pieces.{Finds, HasCome, HoldsFlaw, RefusesExactly}
 
 -- the judge of the lines so far, which has the graph and the loops, the line that isn't ended, and why it refused
 pub record Stream : Type 0 where
@@ -38,3 +40,25 @@ StandsForText v text = IsKnownBy v v.refused text
 abbrev pub answer_by : Option AnswerErr → Result (Unit {0}) AnswerErr
 answer_by None = Ok tt
 answer_by (Some e) = Err e
+
+-- ---- what calls do
+
+-- from each text that has come to a state and a begun line, the judge goes on with this piece to what it finds of both
+abbrev pub LeadsOn : Kept → List ℕ → List ℕ → Kept → List ℕ → Result (Unit {0}) AnswerErr → Type 0
+LeadsOn old begun piece new after r =
+    (text : List ℕ) → HasCome (rules_of old) text old.at (said_of old) begun →
+    Finds (rules_of old) (text ++ piece) new.at (said_of new) after r
+
+-- it stands for each text that it stood for, with this piece behind; after want of memory for none
+abbrev pub StandsOn : Stream → List ℕ → Stream → Result (Unit {0}) AnswerErr → Type 0
+StandsOn old piece new r =
+    (text : List ℕ) → StandsForText old text → r ≢ Err errors.Memory → StandsForText new (text ++ piece)
+
+-- each such text is refused exactly for its flaw
+abbrev pub RefusesByText : Stream → List ℕ → Result (Unit {0}) AnswerErr → Type 0
+RefusesByText old piece r =
+    (text : List ℕ) → StandsForText old text → RefusesExactly (rules_in old) (text ++ piece) r
+
+-- the verdict on each text that it stands for
+abbrev pub GivesVerdictOn : Stream → Result Accepted AnswerErr → Type 0
+GivesVerdictOn v r = (text : List ℕ) → StandsForText v text → GivesVerdict (graph_kept v.judge) v.judge.loops text r

@@ -1,8 +1,9 @@
 // A piece is cut into parts of lines; a line is judged once it is ended.
-ghost use Rattle.std.specs.Prelude.{◌<◌, ◌++◌, ℕ, true, IfOk, List, length};
+ghost use Rattle.std.specs.Prelude.{◌<◌, true, IfOk, length};
 ghost use Rattle.xn_text.specs.Pieces.{Lacks};
-ghost use Rattle.xn_check.specs.Judge.{HaveOneTask, IsReady, rules_of, said_of};
-ghost use Rattle.xn_stream.specs.Pieces.{Finds, HasCome, with_end};
+ghost use Rattle.xn_check.specs.Judge.{HaveOneTask, IsReady};
+ghost use Rattle.xn_stream.specs.Pieces.{with_end};
+ghost use Rattle.xn_stream.specs.Stream.{LeadsOn};
 
 use std::alloc::Global;
 use xn_check::judge::Judge;
@@ -19,8 +20,7 @@ pub fn take(
     requires { IsReady judge.old }
     ensures ready { IfOk result (λ _. IsReady judge.new) }
     ensures task { HaveOneTask judge.new judge.old }
-    ensures finds { (text : List ℕ) → HasCome (rules_of judge.old) text judge.old.at (said_of judge.old) begun.old.items →
-        Finds (rules_of judge.old) (text ++ piece.now) judge.new.at (said_of judge.new) begun.new.items result }
+    ensures finds { LeadsOn judge.old begun.old.items piece.now judge.new begun.new.items result }
 {
     let mut parts = Lines::new(piece);
     while let Some(part) = parts.next() {
@@ -42,8 +42,7 @@ fn take_part(
     requires some { 0 < length (with_end bytes.now ended) }
     ensures ready { IfOk result (λ _. IsReady judge.new) }
     ensures task { HaveOneTask judge.new judge.old }
-    ensures finds { (text : List ℕ) → HasCome (rules_of judge.old) text judge.old.at (said_of judge.old) begun.old.items →
-        Finds (rules_of judge.old) (text ++ with_end bytes.now ended) judge.new.at (said_of judge.new) begun.new.items result }
+    ensures finds { LeadsOn judge.old begun.old.items (with_end bytes.now ended) judge.new begun.new.items result }
 {
     if judge.is_at_end() {
         return judge.line(alloc, bytes, ended);
@@ -66,8 +65,7 @@ fn end_line(
     requires lacks { Lacks 10 bytes.now }
     ensures ready { IfOk result (λ _. IsReady judge.new) }
     ensures task { HaveOneTask judge.new judge.old }
-    ensures finds { (text : List ℕ) → HasCome (rules_of judge.old) text judge.old.at (said_of judge.old) begun.old.items →
-        Finds (rules_of judge.old) (text ++ with_end bytes.now true) judge.new.at (said_of judge.new) begun.new.items result }
+    ensures finds { LeadsOn judge.old begun.old.items (with_end bytes.now true) judge.new begun.new.items result }
 {
     if begun.is_empty() {
         return judge.line(alloc, bytes, true);

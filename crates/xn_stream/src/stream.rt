@@ -1,12 +1,11 @@
 // The checker of a text that comes in pieces.
-ghost use Rattle.std.specs.Prelude.{◌≡◌, ◌≢◌, ◌++◌, ℕ, [], Err, IfOk, List, Some};
+ghost use Rattle.std.specs.Prelude.{◌≡◌, [], Err, IfOk, Some};
 ghost use Rattle.std.specs.List.{flat_map};
 ghost use Rattle.xn_proof.specs.declared.flaw.AnswerErr.{AnswerErr};
 ghost use Rattle.xn_proof.specs.declared.flaw.AnswerErr.TheVariants.{Memory};
 ghost use Rattle.xn_check.specs.Gives.{GivesVerdict};
 ghost use Rattle.xn_check.specs.Judge.{HaveOneTask, graph_kept};
-ghost use Rattle.xn_stream.specs.Pieces.{RefusesExactly};
-ghost use Rattle.xn_stream.specs.Stream.{StandsForText, answer_by, rules_in};
+ghost use Rattle.xn_stream.specs.Stream.{GivesVerdictOn, RefusesByText, StandsForText, StandsOn, answer_by};
 
 use crate::parts::take;
 use std::alloc::{AllocError, Global};
@@ -18,9 +17,10 @@ use xn_proof::AnswerErr;
 
 /// Checks the text of an answer that comes in pieces, for a graph and so many loops left aside.
 ///
-/// It keeps the graph, the drawing, the rows, one path of the tree and the line that isn't ended yet, and no other text. The time is
-/// that of `check_text`: a line is judged once, when its end comes. Contracts see the judge of the lines so far, which has the graph
-/// and the loops, the begun line and the refusal; `StandsForText` says which texts that may be.
+/// It keeps the graph, the drawing, the rows, one path of the tree and the line that isn't ended yet, and no other
+/// text. The time is that of `check_text`: a line is judged once, when its end comes. Contracts see the judge of the
+/// lines so far, which has the graph and the loops, the begun line and the refusal; `StandsForText` says which texts
+/// these may be.
 #[derive(Drop)]
 pub struct StreamCheck {
     judge: Judge,
@@ -52,16 +52,17 @@ impl StreamCheck {
         })
     }
 
-    /// Takes the next piece of the text. It refuses exactly where the text so far holds the first line that fails its rule and its
-    /// end, or a byte behind the line `end`; after a refusal, want of memory included, it answers that refusal again.
+    /// Takes the next piece of the text. It refuses exactly where the text so far holds the first line that fails its
+    /// rule and its end, or a byte behind the line `end`; after a refusal, want of memory included, it answers that
+    /// again.
     pub fn feed(&mut self, alloc: Global, piece: &[u8]) -> Result<(), AnswerErr>
         ensures answer { result ≡ answer_by self.new.refused }
         ensures stays { (e : AnswerErr) → self.old.refused ≡ Some e → self.new.refused ≡ Some e }
         ensures task { HaveOneTask self.new.judge self.old.judge }
 
         // It stands for the text so far and the piece; after want of memory for no text.
-        ensures stands { (text : List ℕ) → StandsForText self.old text → result ≢ Err Memory → StandsForText self.new (text ++ piece.now) }
-        ensures exactly { (text : List ℕ) → StandsForText self.old text → RefusesExactly (rules_in self.old) (text ++ piece.now) result }
+        ensures stands { StandsOn self.old piece.now self.new result }
+        ensures exactly { RefusesByText self.old piece.now result }
     {
         if let Some(refusal) = self.refused {
             return Err(refusal);
@@ -73,7 +74,7 @@ impl StreamCheck {
 
     /// The verdict on the text, which has come to its end. After a refusal it answers that refusal.
     pub fn finish(self) -> Result<Accepted, AnswerErr>
-        ensures verdict { (text : List ℕ) → StandsForText self text → GivesVerdict (graph_kept self.judge) self.judge.loops text result }
+        ensures verdict { GivesVerdictOn self result }
         ensures stays { (e : AnswerErr) → self.refused ≡ Some e → result ≡ Err e }
         ensures memory { result ≡ Err Memory → self.refused ≡ Some Memory }
     {

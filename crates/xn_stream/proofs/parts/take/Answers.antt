@@ -21,7 +21,7 @@ loop-part-preserved c =
 
 pub returns-in_err-take_part-clause-finds : goal.returns-in_err-take_part-clause-finds
 returns-in_err-take_part-clause-finds c =
-    let p = err_from_is_err_and c.from_residual-in_err-take_part.result c.from_residual-in_err-take_part.ensures.1 in
+    let p = err_from_is_err_and c.from_residual.result c.from_residual.ensures.1 in
     rw (p.1, p.2)
     (part_stops c.args.judge.now c.loop-part.judge c.take_part.new.judge c.args.begun.now.items c.args.piece.now c.loop-part.begun.items
     c.take_part.new.begun.items c.in-Some.part.bytes.now c.in-Some.part.ended c.loop-part.parts.1 c.next.new.self.1 c.loop-part.invariant
