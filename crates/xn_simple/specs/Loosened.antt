@@ -13,7 +13,8 @@ pub record ComesFrom (n : ℕ) (web : Graph) (next : ℕ → ℕ) (more : Graph)
   pub nodes : web.nodes ≤ more.nodes
   pub old : (v : ℕ) → four v ≡ true → v < web.nodes
   pub tails : (d : ℕ) → d < 2 * length web.ends →
-      (tail_of more.ends d ≡ tail_of web.ends d) ⊎ ((web.nodes ≤ tail_of more.ends d) × (n ≤ tail_of web.ends d) × (four (tail_of web.ends d) ≡ false))
+      (tail_of more.ends d ≡ tail_of web.ends d)
+      ⊎ ((web.nodes ≤ tail_of more.ends d) × (n ≤ tail_of web.ends d) × (four (tail_of web.ends d) ≡ false))
   pub turns : (d : ℕ) → d < 2 * length web.ends → (tail_of web.ends d < n) ⊎ (four (tail_of web.ends d) ≡ true) → after d ≡ next d
   pub bends : (d : ℕ) → d < 2 * length web.ends → n ≤ tail_of web.ends d → four (tail_of web.ends d) ≡ false → (after d ≡ next d) ⊎ (next (after d) ≡ d)
 
