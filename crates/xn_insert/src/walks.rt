@@ -1,0 +1,46 @@
+ghost use Rattle.std.specs.Prelude.{◌≡◌, ◌<◌, [], length, slice_index_or};
+ghost use Rattle.xn_list.specs.Lists.{lists_of};
+
+use std::alloc::Global;
+use std::marker::Model;
+use xn_list::Lists;
+
+/// Walks: for each edge the darts along it, none where it isn't in.
+#[derive(Debug, Drop)]
+pub struct Walks {
+    lists: Lists,
+}
+
+impl Model for Walks {
+    ghost use Rattle.std.specs.Prelude.{List, ℕ};
+
+    ghost Value = { List (List ℕ) };
+
+    ghost view = { λ w. w.lists };
+}
+
+impl Walks {
+    /// The walks with these lists, in the order of their edges.
+    pub fn new(lists: Vec<Vec<u32>>) -> Walks
+        ensures { result ≡ lists_of lists.items }
+    {
+        Walks {
+            lists: Lists::new(lists),
+        }
+    }
+
+    /// The number of edges that have a list.
+    pub fn len(&self) -> usize
+        ensures { result ≡ length self.now }
+    {
+        self.lists.len()
+    }
+
+    /// The list at a place, from 0 on.
+    pub fn at(&self, e: usize) -> &[u32]
+        requires { e < length self.now }
+        ensures { result.now ≡ slice_index_or self.now e [] }
+    {
+        self.lists.at(e)
+    }
+}
