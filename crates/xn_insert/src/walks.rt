@@ -1,22 +1,21 @@
-ghost use Rattle.std.specs.Prelude.{◌≡◌, ◌<◌, [], length, slice_index_or};
+ghost use Rattle.std.specs.Prelude.{◌≡◌, ◌<◌, [], length, set, slice_index_or};
 ghost use Rattle.xn_list.specs.Lists.{lists_of};
 
-use std::alloc::Global;
 use std::marker::Model;
-use xn_list::Lists;
 
 /// Walks: for each edge the darts along it, none where it isn't in.
 #[derive(Debug, Drop)]
 pub struct Walks {
-    lists: Lists,
+    lists: Vec<Vec<u32>>,
 }
 
 impl Model for Walks {
     ghost use Rattle.std.specs.Prelude.{List, ℕ};
+    ghost use Rattle.xn_list.specs.Lists.{lists_of};
 
     ghost Value = { List (List ℕ) };
 
-    ghost view = { λ w. w.lists };
+    ghost view = { λ w. lists_of w.lists.items };
 }
 
 impl Walks {
@@ -24,9 +23,7 @@ impl Walks {
     pub fn new(lists: Vec<Vec<u32>>) -> Walks
         ensures { result ≡ lists_of lists.items }
     {
-        Walks {
-            lists: Lists::new(lists),
-        }
+        Walks { lists }
     }
 
     /// The number of edges that have a list.
@@ -41,6 +38,6 @@ impl Walks {
         requires { e < length self.now }
         ensures { result.now ≡ slice_index_or self.now e [] }
     {
-        self.lists.at(e)
+        self.lists[e].as_slice()
     }
 }
