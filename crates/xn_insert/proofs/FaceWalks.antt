@@ -12,6 +12,14 @@ use Rattle.xn_insert.specs.Routed.{AreClosed, NamesFace, NamesFaces}
 use Rattle.xn_insert.specs.Search.{unmet}
 use Rattle.xn_insert.proofs.Rounds.{total-set}
 
+-- the first k darts of the face of d are named by it, and no other
+pub record IsNamed (m : ListedMap) (d : ℕ) (old : List ℕ) (k e : ℕ) (names : List ℕ) : Type 0 where
+  pub size : length names ≡ length m.next
+  pub dart : e < length m.next
+  pub at_e : e ≡ iterate (face_step (at m.next)) k d
+  pub mine : (j : ℕ) → j < k → at names (iterate (face_step (at m.next)) j d) ≡ d
+  pub other : (x : ℕ) → x < length m.next → ((j : ℕ) × (j < k) × (iterate (face_step (at m.next)) j d ≡ x)) ⊎ (at names x ≡ at old x)
+
 module _ (m : ListedMap) (is : IsListedMap m) where
   abbrev n : ℕ
   n = length m.next
@@ -36,18 +44,10 @@ module _ (m : ListedMap) (is : IsListedMap m) where
       }
 
   module _ (d : ℕ) (d_in : d < n) (old : List ℕ) (closed : AreClosed m old) (fresh : at old d ≡ n) where
-    -- the first k darts of the face of d are named by it, and no other
-    pub record IsNamed (k e : ℕ) (names : List ℕ) : Type 0 where
-      pub size : length names ≡ n
-      pub dart : e < n
-      pub at_e : e ≡ iterate f k d
-      pub mine : (j : ℕ) → j < k → at names (iterate f j d) ≡ d
-      pub other : (x : ℕ) → x < n → ((j : ℕ) × (j < k) × (iterate f j d ≡ x)) ⊎ (at names x ≡ at old x)
-
-    pub named_begun : IsNamed 0 d old
+    pub named_begun : IsNamed m d old 0 d old
     named_begun = record { size = closed.size; dart = d_in; at_e = refl; mine = λ j low. absurd (omega (arith, low)); other = λ x x_in. inr refl }
 
-    pub named_more : (k e : ℕ) (names : List ℕ) → IsNamed k e names → IsNamed (suc k) (f e) (set names e d)
+    pub named_more : (k e : ℕ) (names : List ℕ) → IsNamed m d old k e names → IsNamed m d old (suc k) (f e) (set names e d)
     named_more k e names now =
         let e_in = now.dart in
         let size = now.size in
@@ -88,7 +88,7 @@ module _ (m : ListedMap) (is : IsListedMap m) where
     strip (suc j) i (suc k) sum same =
         strip j i k (omega (arith, sum)) (permutes.apart (iterate f j d) (iterate f k d) (iterate_below n f permutes j d d_in) (iterate_below n f permutes k d d_in) same)
 
-    module _ (k e : ℕ) (names : List ℕ) (now : IsNamed k e names) (met : at names e ≢ n) where
+    module _ (k e : ℕ) (names : List ℕ) (now : IsNamed m d old k e names) (met : at names e ≢ n) where
       -- the walk has come round
       round : (j : ℕ) × (j < k) × (iterate f j d ≡ iterate f k d)
       round = elim (now.other e now.dart) [

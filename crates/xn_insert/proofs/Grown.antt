@@ -1,15 +1,18 @@
 -- An edge grows along its route, in a loose drawing.
-use Rattle.std.proofs.Common.{◌≡◌, ◌≢◌, ℕ, zero, suc, ◌+◌, ◌*◌, ◌/◌, ◌<◌, ◌≤◌, ◌⊎◌, inl, inr, Bool, true, false, not, ◌&&◌, ◌||◌, eqb, List, [], ◌∷◌, ◌++◌, length, replicate, set, refl, sym, ◌∙◌, ap, subst, arith}
+use Rattle.std.proofs.Common.{◌≡◌, ◌≢◌, ℕ, zero, suc, ◌+◌, ◌*◌, ◌/◌, ◌%◌, ◌<◌, ◌≤◌, ◌⊎◌, inl, inr, Bool, true, false, not, ◌&&◌, ◌||◌, eqb, List, [], ◌∷◌, ◌++◌, length, replicate, set, refl, sym, ◌∙◌, ap, subst, arith}
 use Rattle.std.specs.List.{IsDistinct, range_with_len}
 use Rattle.std.specs.Prelude.{filter, nat_eq}
-use Rattle.std.proofs.lemmas.Bool.{both_ways, cases_Bool, cases_eq, cases_lt, cond-false, cond-true, eq-eqb, eqb-true, ne_eqb, or_cases, or_left, or_right}
-use Rattle.std.proofs.lemmas.List.{get_or-set_other, get_or-set_same, length-replicate, length-set}
+use Rattle.std.proofs.lemmas.Bool.{and_parts, both_ways, cases_Bool, cases_eq, cases_lt, cond-false, cond-true, eq-eqb, eqb-true, ne_eqb, or_cases, or_left, or_right}
+use Rattle.std.proofs.lemmas.List.Kept.{IsStrictlyIncreasing-filter}
+use Rattle.std.proofs.lemmas.List.{get_or_default, get_or-set_other, get_or-set_same, length-replicate, length-set}
 use Rattle.xn_model.specs.Graph.{Graph, IsGraph, ends_at}
 use Rattle.xn_model.specs.Lists.{at, has}
 use Rattle.xn_model.specs.Loose.{IsLoose}
-use Rattle.xn_model.specs.Map.{WalksTo, reverse_of, tail_of}
+use Rattle.xn_model.specs.Map.{IsMap, MeetsEuler, WalksTo, face_step, reverse_of, tail_of}
+use Rattle.xn_model.specs.Permutation.{Reaches}
 use Rattle.xn_model.specs.Orders.{IsEdgeList}
-use Rattle.xn_model.proofs.Darts.{reverse-even, reverse-odd}
+use Rattle.xn_model.proofs.Darts.{cases_dart, reverse-even, reverse-odd}
+use Rattle.xn_model.proofs.Ranges.{edge_list}
 use Rattle.xn_surgery.specs.Corners.{after}
 use Rattle.xn_surgery.specs.Insertion.{IsInsertion}
 use Rattle.xn_surgery.specs.Subdivision.{IsSubdivision, dart_now}
@@ -23,6 +26,8 @@ use Rattle.xn_map.specs.Listed.{IsListedMap, ListedMap}
 use Rattle.xn_map.specs.declared.corners.Corner.TheVariants.{After}
 use Rattle.xn_track.specs.Track.{IsTrack}
 use Rattle.xn_track.proofs.Loose.{loose_drawings_are_tracks}
+use Rattle.xn_track.proofs.Places.{has-at}
+use Rattle.xn_loose.proofs.Land.{also}
 use Rattle.xn_loose.specs.Inserting.{EachMeetsOnce, IsOneMore}
 use Rattle.xn_loose.specs.Routes.{AreFaceNames, IsAcross, IsWithin, RouteOf, dart_back, dart_on}
 use Rattle.xn_loose.proofs.Across as across
@@ -49,7 +54,34 @@ walk_below ends u v (d ∷ ds) walk = (walk.0, walk_below ends (tail_of ends (re
 
 of_dart : (ds : List ℕ) → has_dart ds ≡ false → ds ≡ []
 of_dart [] none = refl
-of_dart (d ∷ ds) none = absurd (both_ways true refl none)
+of_dart (d ∷ ds) none = absurd (both_ways _ none refl)
+
+-- the edge has come to the corner after from, is to end in the corner after to, and `left` is left of its route
+pub record GrownTo (g : Graph) (l : ListedLoose) (e : ℕ) (m : ListedMap) (from to : ℕ) (cuts own left : List ℕ) (done : ℕ) : Type 0 where
+  pub four : ℕ → Bool
+  pub name : ℕ → ℕ
+  pub whole : ℕ → Bool
+  pub y : ℕ
+  pub z : ℕ
+  pub b : ℕ
+  pub q : ℕ
+  pub state : State g (edges_in l) (ends_at g.ends e).0 m.web (at m.next) four name whole y b q (λ x. cut_darts cuts (walk_of l.walks x)) own
+  pub exact : Exact g.nodes (edges_in l) m.web four y (λ x. cut_darts cuts (walk_of l.walks x)) own
+  pub single : Single (edges_in l) m.web name whole y (λ x. cut_darts cuts (walk_of l.walks x)) own
+  pub from_in : from < 2 * length m.web.ends
+  pub to_in : to < 2 * length m.web.ends
+  pub z_in : z < 2 * length m.web.ends
+  pub to_y : at m.next from ≡ y
+  pub to_z : at m.next to ≡ z
+  pub at_z : tail_of m.web.ends z ≡ (ends_at g.ends e).1
+  pub route : RouteOf name whole (name y) left z
+  pub left_in : AreBelow (2 * length l.map.web.ends) left
+  pub cuts_size : length cuts ≡ length l.map.web.ends
+  pub cuts_high : (s : ℕ) → (at cuts s ≡ 0) ⊎ (length l.map.web.ends ≤ at cuts s)
+  pub cut_sides : (s : ℕ) → s < length l.map.web.ends → at cuts s ≢ 0 → (whole (name (2 * s)) ≡ false) ⊎ (whole (name (2 * s + 1)) ≡ false)
+  pub own_high : AreBeyond (2 * length l.map.web.ends) own
+  pub segments : length m.web.ends ≡ length l.map.web.ends + 2 * done
+  pub nodes : m.web.nodes ≡ l.map.web.nodes + done
 
 module _ (g : Graph) (l : ListedLoose) (is : IsLooseOf g l) (e : ℕ) (e_low : e < length g.ends) (new_edge : has (edges_in l) e ≡ false) where
   abbrev pub edges : List ℕ
@@ -67,10 +99,10 @@ module _ (g : Graph) (l : ListedLoose) (is : IsLooseOf g l) (e : ℕ) (e_low : e
   abbrev pub w : ℕ → List ℕ
   w = walk_of l.walks
 
-  is_graph : IsGraph g
+  pub is_graph : IsGraph g
   is_graph = is.loose.is_graph
 
-  list : IsEdgeList (length g.ends) edges
+  pub list : IsEdgeList (length g.ends) edges
   list = is.loose.edge_list
 
   distinct : IsDistinct nat_eq edges
@@ -114,8 +146,8 @@ module _ (g : Graph) (l : ListedLoose) (is : IsLooseOf g l) (e : ℕ) (e_low : e
   pub more_edges : IsOneMore (length g.ends) edges e all
   more_edges = record {
     edge_list = record {
-      rise = IsStrictlyIncreasing-filter then_in (range_with_len 0 (length g.ends)) (range_rises (length g.ends));
-      below = λ i d i_in. below_all i d i_in;
+      rise = IsStrictlyIncreasing-filter then_in (range_with_len 0 (length g.ends)) (edge_list (length g.ends)).rise;
+      below = λ i d i_in. subst (λ k. k < length g.ends) (get_or_default all i 0 d i_in) (all_to (at all i) (has-at all i i_in)).0;
     };
     only = λ x h. elim (or_cases (has_dart (w x)) (eqb x e) (all_to x h).1) [ inl old ↦ inr (walked_edge x old) | inr is_e ↦ inl (eqb-true x e is_e) ];
     new = new_edge;
@@ -136,34 +168,7 @@ module _ (g : Graph) (l : ListedLoose) (is : IsLooseOf g l) (e : ℕ) (e_low : e
   abbrev pub cut : List ℕ → ℕ → List ℕ
   cut cuts x = cut_darts cuts (walk_of l.walks x)
 
-  -- the edge has come to the corner after from, is to end in the corner after to, and `left` is left of its route
-  pub record GrownTo (m : ListedMap) (from to : ℕ) (cuts own left : List ℕ) (done : ℕ) : Type 0 where
-    pub four : ℕ → Bool
-    pub name : ℕ → ℕ
-    pub whole : ℕ → Bool
-    pub y : ℕ
-    pub z : ℕ
-    pub b : ℕ
-    pub q : ℕ
-    pub state : State g edges u m.web (at m.next) four name whole y b q (cut cuts) own
-    pub exact : Exact g.nodes edges m.web four y (cut cuts) own
-    pub single : Single edges m.web name whole y (cut cuts) own
-    pub from_in : from < 2 * length m.web.ends
-    pub to_in : to < 2 * length m.web.ends
-    pub z_in : z < 2 * length m.web.ends
-    pub to_y : at m.next from ≡ y
-    pub to_z : at m.next to ≡ z
-    pub at_z : tail_of m.web.ends z ≡ v
-    pub route : RouteOf name whole (name y) left z
-    pub left_in : AreBelow (2 * count) left
-    pub cuts_size : length cuts ≡ count
-    pub cuts_high : (s : ℕ) → (at cuts s ≡ 0) ⊎ (count ≤ at cuts s)
-    pub cut_sides : (s : ℕ) → s < count → at cuts s ≢ 0 → (whole (name (2 * s)) ≡ false) ⊎ (whole (name (2 * s + 1)) ≡ false)
-    pub own_high : AreBeyond (2 * count) own
-    pub segments : length m.web.ends ≡ count + 2 * done
-    pub nodes : m.web.nodes ≡ l.map.web.nodes + done
-
-  apart : (m : ListedMap) (from to : ℕ) (cuts own left : List ℕ) (done : ℕ) (st : GrownTo m from to cuts own left done) → tail_of m.web.ends st.y ≢ tail_of m.web.ends st.z
+  pub apart : (m : ListedMap) (from to : ℕ) (cuts own left : List ℕ) (done : ℕ) (st : GrownTo g l e m from to cuts own left done) → tail_of m.web.ends st.y ≢ tail_of m.web.ends st.z
   apart m from to cuts own left done st same =
       let at_z = st.at_z in
       let low = e_ends in
@@ -175,7 +180,7 @@ module _ (g : Graph) (l : ListedLoose) (is : IsLooseOf g l) (e : ℕ) (e_low : e
   same_walks : (cuts : List ℕ) → ((t : ℕ) → at cuts t ≡ 0) → (x : ℕ) → w x ≡ cut cuts x
   same_walks cuts none x = sym (none_cut cuts none (w x))
 
-  pub grown_begun : (from to : ℕ) (ds : List ℕ) → IsListedMap l.map → IsLeastRoute l.map u v from ds to → (cuts : List ℕ) → cuts ≡ replicate count 0 → GrownTo l.map from to cuts [] ds 0
+  pub grown_begun : (from to : ℕ) (ds : List ℕ) → IsListedMap l.map → IsLeastRoute l.map u v from ds to → (cuts : List ℕ) → cuts ≡ replicate count 0 → GrownTo g l e l.map from to cuts [] ds 0
   grown_begun from to ds listed r cuts cuts_are =
       let t = loose_drawings_are_tracks g edges is.further l.map.web (at l.map.next) w is.loose in
       let four = t.0 in
@@ -231,7 +236,7 @@ module _ (g : Graph) (l : ListedLoose) (is : IsLooseOf g l) (e : ℕ) (e_low : e
 
   -- ---- a step
 
-  module _ (m : ListedMap) (from to : ℕ) (cuts own : List ℕ) (d : ℕ) (left : List ℕ) (done : ℕ) (st : GrownTo m from to cuts own (d ∷ left) done) where
+  module _ (m : ListedMap) (from to : ℕ) (cuts own : List ℕ) (d : ℕ) (left : List ℕ) (done : ℕ) (st : GrownTo g l e m from to cuts own (d ∷ left) done) where
     abbrev ends : List (ℕ × ℕ)
     ends = m.web.ends
 
@@ -274,7 +279,8 @@ module _ (g : Graph) (l : ListedLoose) (is : IsLooseOf g l) (e : ℕ) (e_low : e
       | inl none ↦ none
       | inr some ↦
           let far_whole : (st.whole (st.name (reverse_of d)) && not (eqb (st.name (reverse_of d)) (st.name st.y))) ≡ true = route_starts left st.route.2 in
-          let far = (and_parts _ _ far_whole).0 in
+          let parts : (st.whole (st.name (reverse_of d)) ≡ true) × (not (eqb (st.name (reverse_of d)) (st.name st.y)) ≡ true) = and_parts _ _ far_whole in
+          let far = parts.0 in
           let near : st.whole (st.name d) ≡ true = ap st.whole (sym one_name) ∙ is_whole in
           let c = cases_dart d in
           let s_is : c.0 ≡ s = omega (arith, c.1) in
@@ -342,7 +348,7 @@ module _ (g : Graph) (l : ListedLoose) (is : IsLooseOf g l) (e : ℕ) (e_low : e
       abbrev own' : List ℕ
       own' = own ++ (2 * length m.web.ends + 2) ∷ []
 
-      abbrev pub four' : ℕ → Bool
+      abbrev four' : ℕ → Bool
       four' = also st.four g.nodes (tail_of m.web.ends st.y)
 
       web_is : record { nodes = suc m.web.nodes; ends = m'.web.ends } ≡ m'.web
@@ -405,7 +411,7 @@ module _ (g : Graph) (l : ListedLoose) (is : IsLooseOf g l) (e : ℕ) (e_low : e
           falls false = refl
 
       still : (k : ℕ) → st.whole k ≡ false → whole' k ≡ false
-      still k no = rw no refl
+      still k fails = rw fails refl
 
       sides : (t : ℕ) → t < count → at cuts' t ≢ 0 → (whole' (names (2 * t)) ≡ false) ⊎ (whole' (names (2 * t + 1)) ≡ false)
       sides t t_in some =
@@ -441,7 +447,7 @@ module _ (g : Graph) (l : ListedLoose) (is : IsLooseOf g l) (e : ℕ) (e_low : e
       now_low : (x : ℕ) → x < 2 * last → dart_now s last x < 2 * length m'.web.ends
       now_low x x_in = let c = now_cases s last x in let size = size' in omega (arith, c, x_in, size)
 
-      pub grown_more : GrownTo m' (dart_on (length m.web.ends) d) (dart_now (d / 2) (length m.web.ends) to) (set cuts (d / 2) (length m.web.ends)) (own ++ (2 * length m.web.ends + 2) ∷ []) left (done + 1)
+      pub grown_more : GrownTo g l e m' (dart_on (length m.web.ends) d) (dart_now (d / 2) (length m.web.ends) to) (set cuts (d / 2) (length m.web.ends)) (own ++ (2 * length m.web.ends + 2) ∷ []) left (done + 1)
       grown_more = record {
         four = four';
         name = names;

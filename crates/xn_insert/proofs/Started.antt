@@ -1,5 +1,5 @@
 -- The walks of the kept edges as lists, and the loose drawing that they give.
-use Rattle.std.proofs.Common.{◌≡◌, ◌≢◌, ℕ, zero, suc, ◌+◌, ◌*◌, ◌<◌, ◌≤◌, inl, inr, Bool, true, false, ◌||◌, cond, eqb, List, [], ◌∷◌, ◌++◌, length, map, replicate, set, take, refl, sym, ◌∙◌, ap, subst, arith, length-append}
+use Rattle.std.proofs.Common.{◌≡◌, ◌≢◌, ℕ, zero, suc, ◌+◌, ◌*◌, ◌^◌, ◌<◌, ◌≤◌, inl, inr, Bool, true, false, ◌||◌, cond, eqb, List, [], ◌∷◌, ◌++◌, length, map, replicate, set, take, refl, sym, ◌∙◌, ap, subst, arith, length-append}
 use Rattle.std.specs.List.{AllByRecursion, IsDistinct, flat_map, range_with_len}
 use Rattle.std.specs.Prelude.{filter, nat_eq}
 use Rattle.std.proofs.lemmas.Bool.{both_ways, cases_Bool, cases_eq, cond-true, cond-false, eq-eqb, eqb-true, ne_eqb, or_cases}
@@ -9,6 +9,7 @@ use Rattle.xn_model.specs.Lists.{at, has, total}
 use Rattle.xn_model.specs.Loose.{GoesStraight, IsLoose, MeetsOnce, times_walked}
 use Rattle.xn_model.specs.Map.{WalksTo}
 use Rattle.xn_model.specs.Orders.{IsEdgeList, IsOrders, crossings_of, order_at}
+use Rattle.xn_model.proofs.Ranges.{edge_list}
 use Rattle.xn_model.specs.Web.{first_segment, segments_of, web_of}
 use Rattle.xn_graph.specs.Limits.{IsLimitedGraph}
 use Rattle.xn_orders.proofs.Limits.{length-segments_of, web_limited}
@@ -21,7 +22,7 @@ use Rattle.xn_loose.specs.Inserting.{EachMeetsOnce}
 use Rattle.xn_loose.specs.Webs.{darts_from, walk_in_web}
 use Rattle.xn_loose.proofs.Webs.{drawings_are_loose}
 use Rattle.xn_insert.specs.Calls.{DrawsKept, IsStarted}
-use Rattle.xn_insert.specs.ListedLoose.{IsLooseOf, edges_in, has_dart, loose_of, walk_of}
+use Rattle.xn_insert.specs.ListedLoose.{IsLooseOf, ListedLoose, edges_in, has_dart, loose_of, walk_of}
 use Rattle.xn_insert.specs.Starting.{AreWalksInWeb, AreWalksUpTo, segments_along, walk_listed}
 use Rattle.xn_insert.proofs.Walked.{walks_meet_once}
 
@@ -32,6 +33,13 @@ doubled s zero = refl
 doubled s (suc k) =
     let on : s + 1 ≡ suc s = omega arith in
     ap (λ l. 2 * s ∷ l) (ap (λ t. map (λ x. 2 * x) (range_with_len t (suc k))) on ∙ doubled (suc s) k)
+
+pub range_more : (a k : ℕ) → range_with_len a (k + 1) ≡ range_with_len a k ++ (a + k) ∷ []
+range_more a k = (let e : k + 1 ≡ suc k = omega arith in ap (range_with_len a) e) ∙ by_steps a k
+  where
+    by_steps : (b j : ℕ) → range_with_len b (suc j) ≡ range_with_len b j ++ (b + j) ∷ []
+    by_steps b zero = let e : b ≡ b + 0 = omega arith in ap (λ x. x ∷ []) e
+    by_steps b (suc j) = let e : b + 1 + j ≡ b + suc j = omega arith in ap (λ l. b ∷ l) (by_steps (b + 1) j ∙ ap (λ x. range_with_len (b + 1) j ++ x ∷ []) e)
 
 -- ---- how many segments come first
 
@@ -213,3 +221,26 @@ started g kept lists map walks is_graph list draws are =
         once = subst (λ es. EachMeetsOnce es map.web.ends (walk_of walks)) (sym in_it) (subst (λ w. EachMeetsOnce kept w.ends (walk_of walks)) (sym draws.web) once);
       };
     }
+
+-- ---- whether all are in
+
+-- an edge with an empty list isn't in
+pub empty_out : (l : ListedLoose) (e : ℕ) → e < length l.walks → length (walk_of l.walks e) ≡ 0 → edges_in l ≡ range_with_len 0 (length l.walks) → ⊥
+empty_out l e low none all =
+    let n = length l.walks in
+    let there : has (edges_in l) e ≡ true = ap (λ xs. has xs e) all ∙ has-range 0 n e (omega arith) (omega (arith, low)) in
+    no_dart (walk_of l.walks e) none (has-picked (λ x. has_dart (walk_of l.walks x)) (range_with_len 0 n) e there).1
+  where
+    no_dart : (ds : List ℕ) → length ds ≡ 0 → has_dart ds ≡ true → ⊥
+    no_dart [] none some = both_ways false refl some
+    no_dart (d ∷ ds) none some = omega (arith, none)
+
+pub all_in : (l : ListedLoose) → ((x : ℕ) → x < length l.walks → has_dart (walk_of l.walks x) ≡ true) → edges_in l ≡ range_with_len 0 (length l.walks)
+all_in l each =
+    let n = length l.walks in
+    edges_by_test n (λ x. has_dart (walk_of l.walks x)) (range_with_len 0 n) (edge_list n) (λ x low. each x low ∙ sym (has-range 0 n x (omega arith) (omega (arith, low))))
+
+-- a list with an element has a dart
+pub some_dart : (ds : List ℕ) → length ds ≢ 0 → has_dart ds ≡ true
+some_dart [] some = absurd (some refl)
+some_dart (d ∷ ds) some = refl

@@ -46,5 +46,9 @@ fn first_darts(alloc: Global, first: u32, more: u32) -> Result<Vec<u32>, AllocEr
     requires { first + more < 2 ^ 30 }
     ensures { IfOk result (λ darts. darts.items ≡ darts_from first more) }
 {
-    (first..first + more + 1).map(|s| 2 * s).collect(alloc)
+    let mut darts = Vec::new(alloc);
+    for i in 0..more + 1 {
+        darts.push(2 * (first + i))?;
+    }
+    Ok(darts)
 }

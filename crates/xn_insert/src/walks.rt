@@ -40,4 +40,12 @@ impl Walks {
     {
         self.lists[e].as_slice()
     }
+
+    /// Another list in the place of an edge.
+    pub fn put(&mut self, e: u32, list: Vec<u32>)
+        requires { e < length self.old }
+        ensures { self.new ≡ set self.old e list.items }
+    {
+        self.lists[e as usize] = list;
+    }
 }

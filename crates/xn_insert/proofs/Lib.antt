@@ -1,0 +1,11 @@
+pub mod Counted
+pub mod CutWalks
+pub mod Ended
+pub mod FaceWalks
+pub mod FacesAround
+pub mod Grown
+pub mod Nearest
+pub mod Rounds
+pub mod Started
+pub mod Stepping
+pub mod Walked
