@@ -1,11 +1,3 @@
-pub mod Counted
-pub mod CutWalks
-pub mod Ended
-pub mod FaceWalks
-pub mod FacesAround
-pub mod Grown
-pub mod Nearest
-pub mod Rounds
+pub mod Alone
 pub mod Started
-pub mod Stepping
 pub mod Walked

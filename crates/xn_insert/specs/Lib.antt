@@ -1,6 +1,3 @@
 pub mod Calls
-pub mod Cuts
 pub mod ListedLoose
-pub mod Routed
-pub mod Search
 pub mod Starting
