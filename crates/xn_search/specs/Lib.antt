@@ -1,0 +1,5 @@
+pub mod Choice
+pub mod Ones
+pub mod Rounds
+pub mod Search
+pub mod Solved

@@ -1,0 +1,14 @@
+//! The search for a drawing with the fewest crossings, and for the proof that no drawing has fewer.
+#![tactic(auto)]
+
+mod decisions;
+mod ones;
+mod round;
+mod searches;
+mod solved;
+#[cfg(test)]
+mod tests;
+
+pub use decisions::{Claim, Decider, Decision, Drawn};
+pub use searches::{Searched, search};
+pub use solved::{Proof, Solved, Work, solve_from};
