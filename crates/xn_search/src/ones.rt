@@ -59,7 +59,8 @@ fn push_children(
     match node {
         Node::Pair(_, _) => {
             ones.push(first + 1)?;
-            ones.push(first)
+            ones.push(first)?;
+            Ok(())
         }
         Node::Place(e, _) => push_copies(first, given.placed(*e).len() + 1, ones),
         Node::Leaf { .. } => Ok(()),
