@@ -17,6 +17,10 @@ use Rattle.xn_plant.specs.Listed.{is_loose_on, is_planted, planted_list, planted
 use Rattle.xn_plant.proofs.Lists.{distinct-append, distinct-filter}
 use Rattle.xn_plant.proofs.Standing.{stood_before}
 
+none_distinct : IsDistinct nat_eq []
+unfolding IsDistinct
+none_distinct = tt
+
 -- ---- the list of an edge
 
 -- where an edge is listed it has the list made for it
@@ -93,9 +97,6 @@ module _ (g : Graph) (s : State) (state : IsState g s) where
           (has-kept (is_loose_on s e) edges f f_in (and_from (is_planted s e f) (not (has (s.placed e) f)) (crosses_planted e f crosses) (ap not loose)))
     ]
 
-    abbrev ord : ℕ → List ℕ
-    ord = order_at edges (planted_lists s edges)
-
     pub order-is : (e : ℕ) → has edges e ≡ true → order_at edges (planted_lists s edges) e ≡ planted_list s edges e
     order-is e e_in = listed-is (planted_list s edges) edges e e_in
 
@@ -127,10 +128,6 @@ module _ (g : Graph) (s : State) (state : IsState g s) where
       | inl e_in ↦ subst (IsDistinct nat_eq) (sym (order-is e e_in)) (list_distinct e)
       | inr e_out ↦ subst (IsDistinct nat_eq) (sym (order_at_outside edges (planted_lists s edges) e e_out)) none_distinct
     ]
-      where
-        none_distinct : IsDistinct nat_eq []
-        unfolding IsDistinct
-        none_distinct = tt
 
     pub are_orders : IsOrders g.ends edges (order_at edges (planted_lists s edges))
     are_orders = record {

@@ -13,7 +13,7 @@ use Rattle.xn_effort.specs.LeafLaws.{OnesClose}
 use Rattle.xn_effort.specs.Leads.{HasOpened, Searches}
 use Rattle.xn_effort.specs.Potential.{ones_in}
 use Rattle.xn_tree.specs.Walk.{FitsFirst, Position, after, pending_of}
-use Rattle.xn_search.specs.Choice.{GrowsTo, IsChoice, IsDrawn}
+use Rattle.xn_search.specs.Choice.{GrowsTo, IsChoice, IsDecision, IsDrawn}
 use Rattle.xn_search.specs.Ones.{ones_of}
 use Rattle.xn_search.specs.Rounds.{EndsAs, IsOpen}
 use Rattle.xn_search.specs.declared.decisions.Decision.{Decision}
@@ -50,6 +50,16 @@ first_of (s ∷ left) some = (s, left, refl)
 -- a leaf without rows closes a state with enough ones
 pub closed_by_ones : OnesClose → (g : Graph) (t : ℕ) (rows : List Row) (s : State) → t ≤ ones_in g s → IsChoice g t rows s (Open (Leaf 1 []))
 closed_by_ones ones g t rows s enough = (ones g t rows s enough, tt)
+
+-- a node of a state with fewer ones
+opened_well : (g : Graph) (t : ℕ) (rows : List Row) (s : State) (node : Node) → ones_in g s < t → MayOpen g t rows s node → Searches g t rows s node
+opened_well g t rows s (Pair e f) low may = (may, low)
+opened_well g t rows s (Place e f) low may = (may, low)
+opened_well g t rows s (Leaf d parts) low may = (may, tt)
+
+pub decided_well : (g : Graph) (t : ℕ) (rows : List Row) (s : State) (decision : Decision) → ones_in g s < t → IsDecision g t rows s decision → IsChoice g t rows s decision
+decided_well g t rows s (Open node) low is = opened_well g t rows s node low is
+decided_well g t rows s (Found d) low is = is
 
 pub extends_none : (rows : List Row) → GrowsTo rows rows
 extends_none rows = ([], sym (append-nil rows))

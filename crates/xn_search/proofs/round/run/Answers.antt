@@ -1,9 +1,11 @@
-use Rattle.std.proofs.Common.{◌≡◌, ◌+◌, ◌≤◌, ◌∙◌, arith, length, subst}
+use Rattle.std.proofs.Common.{◌≡◌, ◌+◌, ◌≤◌, ◌∙◌, List, ℕ, arith, length, subst, sym}
 use Rattle.std.specs.Prelude.{max}
 use Rattle.xn_tree.specs.Given.{state_of}
 use Rattle.xn_tree.specs.Walk.{pending_of}
 use Rattle.xn_effort.specs.Leads.{Searches}
+use Rattle.xn_effort.specs.Potential.{ones_in}
 use Rattle.xn_search.specs.Choice.{IsChoice}
+use Rattle.xn_search.specs.Ones.{EndsWith}
 use Rattle.xn_search.proofs.Opened.{extends_more, few_rows, found_ends, goes_first, goes_on, keeps_fits, not_where, proved_ends, spent_ends, state_first}
 use Rattle.xn_search.proofs.Pushed.{first_counted}
 use Rattle.xn_search.proofs.round.run.Goals as goal
@@ -25,8 +27,9 @@ choose-requires-clause-state g c =
 
 pub choose-requires-clause-counted : goal.choose-requires-clause-counted
 choose-requires-clause-counted g c =
-    first_counted c.args.claim.now.graph.now (pending_of c.loop-spent.walk) (state_of c.given-given.result.now) c.loop-spent.ones.items c.loop-spent.invariant.goes.counted
-    c.loop-spent.invariant.goes.some_left c.given-given.ensures.state
+    subst (λ (numbers : List ℕ). EndsWith numbers (ones_in c.args.claim.now.graph.now (state_of c.given-given.result.now))) (sym c.as_slice.ensures)
+    (first_counted c.args.claim.now.graph.now (pending_of c.loop-spent.walk) (state_of c.given-given.result.now) c.loop-spent.ones.items c.loop-spent.invariant.goes.counted
+    c.loop-spent.invariant.goes.some_left c.given-given.ensures.state)
 
 pub count_children-requires-clause-graph : goal.count_children-requires-clause-graph
 count_children-requires-clause-graph g c = c.given-given.ensures.graph ∙ c.loop-spent.invariant.goes.same_graph
