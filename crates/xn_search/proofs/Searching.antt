@@ -110,15 +110,17 @@ module _ (known : Known) (g : Graph) (is_graph : IsGraph g) (budget lower spent 
     begins = known.begin g (suc lower) rows nodes open_round.0 open_round.1 open_round.2
 
     -- the budget is spent
-    pub spent_all : (drawn : Drawn) → IsDrawn g drawn → lower < drawn.crossings → (cost : ℕ) → cost ≡ length nodes → cost ≡ budget - spent →
+    pub spent_all : (drawn : Drawn) → IsDrawn g drawn → lower < drawn.crossings → (cost : ℕ) → cost ≡ length nodes → cost ≡ budget - spent → length rows ≤ max (length first) 800000 + cost →
         (r : Searched) → r ≡ record { drawn = drawn; lower = lower; spent = spent + cost; rows = rows; rounds = rounds; unfinished = nodes } → IsSearch g budget r
-    spent_all drawn is_drawn less cost is all r made =
+    spent_all drawn is_drawn less cost is all few_more r made =
+        let few_in_all : length rows ≤ 800000 + (spent + cost) = omega (arith, few_more, so.few) in
         let whole : spent + cost ≡ budget = omega (arith, all, so.in_budget) in
         let done : IsSearch g budget (record { drawn = drawn; lower = lower; spent = spent + cost; rows = rows; rounds = rounds; unfinished = nodes }) = record {
           drawn = is_drawn;
           at_most = omega (arith, less);
           least = so.least;
           rows_hold = hold;
+          few_rows = few_in_all;
           count = so.count;
           rounds = prove_still;
           unfinished = begins;
@@ -130,15 +132,17 @@ module _ (known : Known) (g : Graph) (is_graph : IsGraph g) (budget lower spent 
         subst (IsSearch g budget) (sym made) done
 
     -- the last state has a drawing, with no more crossings than are proved
-    pub found_one : (drawn : Drawn) → IsDrawn g drawn → drawn.crossings < suc lower → (cost : ℕ) → cost ≡ suc (length nodes) → spent + cost ≤ budget →
+    pub found_one : (drawn : Drawn) → IsDrawn g drawn → drawn.crossings < suc lower → (cost : ℕ) → cost ≡ suc (length nodes) → spent + cost ≤ budget → length rows ≤ max (length first) 800000 + cost →
         (r : Searched) → r ≡ record { drawn = drawn; lower = lower; spent = spent + cost; rows = rows; rounds = rounds; unfinished = nodes } → IsSearch g budget r
-    found_one drawn is_drawn few cost is enough r made =
+    found_one drawn is_drawn few cost is enough few_more r made =
+        let few_in_all : length rows ≤ 800000 + (spent + cost) = omega (arith, few_more, so.few) in
         let proved : lower ≤ drawn.crossings = so.least drawn.crossings (order_of g drawn.drawing.orders, at drawn.drawing.next, is_drawn.drawing.drawing, sym is_drawn.count) in
         let done : IsSearch g budget (record { drawn = drawn; lower = lower; spent = spent + cost; rows = rows; rounds = rounds; unfinished = nodes }) = record {
           drawn = is_drawn;
           at_most = proved;
           least = so.least;
           rows_hold = hold;
+          few_rows = few_in_all;
           count = so.count;
           rounds = prove_still;
           unfinished = begins;
@@ -160,6 +164,7 @@ all_proved known g budget lower spent rows rounds so drawn is_drawn all r none i
       at_most = omega (arith, all);
       least = so.least;
       rows_hold = so.rows_hold;
+      few_rows = so.few;
       count = so.count;
       rounds = so.rounds_prove;
       unfinished = tt;

@@ -27,6 +27,7 @@ pub record IsSearch (g : Graph) (budget : ℕ) (r : Searched) : Type 0 where
   pub at_most : r.lower ≤ r.drawn.crossings
   pub least : IsAtLeast g r.lower
   pub rows_hold : All (RowHolds g) r.rows
+  pub few_rows : length r.rows ≤ 800000 + r.spent
   pub count : length r.rounds ≡ r.lower
   pub rounds : ProveInTurn g r.rows r.rounds
   pub unfinished : BeginsProof g (suc r.lower) r.rows r.unfinished

@@ -10,14 +10,15 @@ use Rattle.xn_kinds.specs.Tree.{Accepts, BeginsProof}
 use Rattle.xn_kinds.specs.declared.rows.Row.{Row}
 use Rattle.xn_kinds.specs.declared.trees.Node.{Node}
 use Rattle.xn_kinds.specs.declared.trees.Node.TheVariants.{Leaf}
+use Rattle.xn_tidy.specs.FirstUse.{ByFirstUse, IsTidied}
+use Rattle.xn_tidy.specs.declared.tidying.Proof.{Proof}
 use Rattle.xn_search.specs.Search.{ProveInTurn}
-use Rattle.xn_search.specs.declared.solved.Proof.{Proof}
 use Rattle.xn_search.specs.declared.solved.Solved.{Solved}
 
--- the last tree, or a leaf alone where there is none
+-- the last tree with its rows by first use, or a leaf alone where there is none
 pub record IsLastProof (rows : List Row) (rounds : List (List Node)) (p : Proof) : Type 0 where
   pub none : length rounds ≡ 0 → (p.rows ≡ []) × (p.tree ≡ Leaf 1 [] ∷ [])
-  pub last : 0 < length rounds → (p.rows ≡ rows) × (p.tree ≡ slice_index_or rounds (length rounds - 1) [])
+  pub last : 0 < length rounds → IsTidied rows (slice_index_or rounds (length rounds - 1) []) p
 
 -- the number of nodes in the work
 abbrev pub nodes_of : Solved → ℕ
@@ -39,6 +40,7 @@ pub record IsWork (g : Graph) (r : Solved) : Type 0 where
 pub record IsSolved (g : Graph) (budget : ℕ) (r : Solved) : Type 0 where
   pub drawing : IsListedDrawing g r.drawing.orders r.drawing.next
   pub accepted : Accepts g r.lower r.rows r.tree
+  pub first_use : ByFirstUse r.rows r.tree
   pub at_most : r.lower ≤ crossings_of g r
   pub undecided : r.lower < crossings_of g r → (r.spent ≡ budget) × IsBelowLimit g budget
   pub in_budget : r.spent ≤ budget

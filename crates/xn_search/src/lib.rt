@@ -11,4 +11,4 @@ mod tests;
 
 pub use decisions::{Claim, Decider, Decision, Drawn};
 pub use searches::{Searched, search};
-pub use solved::{Proof, Solved, Work, solve_from};
+pub use solved::{Solved, Work, solve_from};

@@ -27,7 +27,7 @@ choose-requires-clause-state g c =
 
 pub choose-requires-clause-counted : goal.choose-requires-clause-counted
 choose-requires-clause-counted g c =
-    subst (λ (numbers : List ℕ). EndsWith numbers (ones_in c.args.claim.now.graph.now (state_of c.given-given.result.now))) (sym c.as_slice.ensures)
+    subst (λ (numbers : List ℕ). EndsWith numbers (ones_in c.args.claim.now.graph.now (state_of c.given-given.result.now))) (sym c.as_slice.ensures.value)
     (first_counted c.args.claim.now.graph.now (pending_of c.loop-spent.walk) (state_of c.given-given.result.now) c.loop-spent.ones.items c.loop-spent.invariant.goes.counted
     c.loop-spent.invariant.goes.some_left c.given-given.ensures.state)
 
