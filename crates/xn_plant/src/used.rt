@@ -14,11 +14,7 @@ pub fn used_edges(alloc: Global, row: &Row) -> Result<Vec<u32>, AllocError>
 {
     let by_segment = edges_by_segment(alloc, row)?;
     let mut used = Vec::new(alloc);
-    match &row.evidence {
-        Evidence::Five { paths, .. } => push_paths(&mut used, by_segment.as_slice(), paths)?,
-        Evidence::ThreeThree { paths, .. } => push_paths(&mut used, by_segment.as_slice(), paths)?,
-        Evidence::Extension { list } => push_edges(&mut used, by_segment.as_slice(), list.as_slice())?,
-    }
+    push_evidence(&mut used, by_segment.as_slice(), &row.evidence)?;
     used.sort()?;
     used.dedup();
     Ok(used)
@@ -36,6 +32,22 @@ fn edges_by_segment(alloc: Global, row: &Row) -> Result<Vec<u32>, AllocError>
         }
     }
     Ok(by_segment)
+}
+
+// Appends the edges of the segments of an evidence.
+fn push_evidence(
+    used: &mut Vec<u32>,
+    by_segment: &[u32],
+    evidence: &Evidence,
+) -> Result<(), AllocError>
+    requires { All (λ e. has by_segment.now e ≡ true) used.old.items }
+    ensures { OnOk result (All (λ e. has by_segment.now e ≡ true) used.new.items) }
+{
+    match evidence {
+        Evidence::Five { paths, .. } => push_paths(used, by_segment, paths),
+        Evidence::ThreeThree { paths, .. } => push_paths(used, by_segment, paths),
+        Evidence::Extension { list } => push_edges(used, by_segment, list.as_slice()),
+    }
 }
 
 // Appends the edges of the segments of some paths.
