@@ -13,7 +13,7 @@ use Rattle.xn_effort.specs.LeafLaws.{OnesClose}
 use Rattle.xn_effort.specs.Leads.{HasOpened, Searches}
 use Rattle.xn_effort.specs.Potential.{ones_in}
 use Rattle.xn_tree.specs.Walk.{FitsFirst, Position, after, pending_of}
-use Rattle.xn_search.specs.Choice.{GrowsTo, IsChoice, IsDecision, IsDrawn}
+use Rattle.xn_search.specs.Choice.{GrowsTo, IsRoundDecision, IsDecision, IsCountedDrawing}
 use Rattle.xn_search.specs.Ones.{ones_of}
 use Rattle.xn_search.specs.Rounds.{EndsAs, IsOpen}
 use Rattle.xn_search.specs.declared.decisions.Decision.{Decision}
@@ -48,7 +48,7 @@ first_of [] some = absurd (some refl)
 first_of (s ∷ left) some = (s, left, refl)
 
 -- a leaf without rows closes a state with enough ones
-pub closed_by_ones : OnesClose → (g : Graph) (t : ℕ) (rows : List Row) (s : State) → t ≤ ones_in g s → IsChoice g t rows s (Open (Leaf 1 []))
+pub closed_by_ones : OnesClose → (g : Graph) (t : ℕ) (rows : List Row) (s : State) → t ≤ ones_in g s → IsRoundDecision g t rows s (Open (Leaf 1 []))
 closed_by_ones ones g t rows s enough = (ones g t rows s enough, tt)
 
 -- a node of a state with fewer ones
@@ -57,7 +57,7 @@ opened_well g t rows s (Pair e f) low may = (may, low)
 opened_well g t rows s (Place e f) low may = (may, low)
 opened_well g t rows s (Leaf d parts) low may = (may, tt)
 
-pub decided_well : (g : Graph) (t : ℕ) (rows : List Row) (s : State) (decision : Decision) → ones_in g s < t → IsDecision g t rows s decision → IsChoice g t rows s decision
+pub decided_well : (g : Graph) (t : ℕ) (rows : List Row) (s : State) (decision : Decision) → ones_in g s < t → IsDecision g t rows s decision → IsRoundDecision g t rows s decision
 decided_well g t rows s (Open node) low is = opened_well g t rows s node low is
 decided_well g t rows s (Found d) low is = is
 
@@ -124,7 +124,7 @@ module _ (more_rows : MoreRowsKeepRounds) (one_more : OneMoreIsOpened) (g : Grap
   few_rows few = omega (arith, few, goes.few)
 
   -- the state has a drawing
-  pub found_ends : (budget : ℕ) (d : Drawn) → IsDrawn g d → d.crossings < t → EndsAs g t budget longer nodes (count + 1) (EndFound d)
+  pub found_ends : (budget : ℕ) (d : Drawn) → IsCountedDrawing g d → d.crossings < t → EndsAs g t budget longer nodes (count + 1) (EndFound d)
   found_ends budget d drawn fewer =
       (is_open more_rows one_more g t rows longer nodes extends walk goes.opened goes.some_left, omega (arith, goes.nodes_count), drawn, fewer)
 

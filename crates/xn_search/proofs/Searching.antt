@@ -16,7 +16,7 @@ use Rattle.xn_kinds.specs.declared.trees.Node.{Node}
 use Rattle.xn_effort.specs.Laws.{FinishedRoundsProve, MoreRowsKeepProofs, OpenRoundsBegin, RoundsEnd, ShownRoundsAreBelow, ShownRoundsAreWithin}
 use Rattle.xn_effort.specs.Leads.{HasOpened}
 use Rattle.xn_sound.specs.Laws.{AcceptedProofsBound}
-use Rattle.xn_search.specs.Choice.{GrowsTo, IsDrawn}
+use Rattle.xn_search.specs.Choice.{GrowsTo, IsCountedDrawing}
 use Rattle.xn_search.specs.Rounds.{EndsAs, IsOpen}
 use Rattle.xn_search.specs.Search.{IsSearch, ProveInTurn}
 use Rattle.xn_search.specs.declared.decisions.Drawn.{Drawn}
@@ -110,7 +110,7 @@ module _ (known : Known) (g : Graph) (is_graph : IsGraph g) (budget lower spent 
     begins = known.begin g (suc lower) rows nodes open_round.0 open_round.1 open_round.2
 
     -- the budget is spent
-    pub spent_all : (drawn : Drawn) → IsDrawn g drawn → lower < drawn.crossings → (cost : ℕ) → cost ≡ length nodes → cost ≡ budget - spent → length rows ≤ max (length first) 800000 + cost →
+    pub spent_all : (drawn : Drawn) → IsCountedDrawing g drawn → lower < drawn.crossings → (cost : ℕ) → cost ≡ length nodes → cost ≡ budget - spent → length rows ≤ max (length first) 800000 + cost →
         (r : Searched) → r ≡ record { drawn = drawn; lower = lower; spent = spent + cost; rows = rows; rounds = rounds; unfinished = nodes } → IsSearch g budget r
     spent_all drawn is_drawn less cost is all few_more r made =
         let few_in_all : length rows ≤ 800000 + (spent + cost) = omega (arith, few_more, so.few) in
@@ -132,7 +132,7 @@ module _ (known : Known) (g : Graph) (is_graph : IsGraph g) (budget lower spent 
         subst (IsSearch g budget) (sym made) done
 
     -- the last state has a drawing, with no more crossings than are proved
-    pub found_one : (drawn : Drawn) → IsDrawn g drawn → drawn.crossings < suc lower → (cost : ℕ) → cost ≡ suc (length nodes) → spent + cost ≤ budget → length rows ≤ max (length first) 800000 + cost →
+    pub found_one : (drawn : Drawn) → IsCountedDrawing g drawn → drawn.crossings < suc lower → (cost : ℕ) → cost ≡ suc (length nodes) → spent + cost ≤ budget → length rows ≤ max (length first) 800000 + cost →
         (r : Searched) → r ≡ record { drawn = drawn; lower = lower; spent = spent + cost; rows = rows; rounds = rounds; unfinished = nodes } → IsSearch g budget r
     found_one drawn is_drawn few cost is enough few_more r made =
         let few_in_all : length rows ≤ 800000 + (spent + cost) = omega (arith, few_more, so.few) in
@@ -155,7 +155,7 @@ module _ (known : Known) (g : Graph) (is_graph : IsGraph g) (budget lower spent 
 
 -- all crossings of the drawing are proved
 pub all_proved : Known → (g : Graph) (budget lower spent : ℕ) (rows : List Row) (rounds : List (List Node)) → Sofar g budget lower spent rows rounds →
-    (drawn : Drawn) → IsDrawn g drawn → lower ≡ drawn.crossings →
+    (drawn : Drawn) → IsCountedDrawing g drawn → lower ≡ drawn.crossings →
     (r : Searched) (none : List Node) → none ≡ [] → r ≡ record { drawn = drawn; lower = lower; spent = spent; rows = rows; rounds = rounds; unfinished = none } → IsSearch g budget r
 all_proved known g budget lower spent rows rounds so drawn is_drawn all r none is_none made =
     let with : List Node → Searched = λ u. record { drawn = drawn; lower = lower; spent = spent; rows = rows; rounds = rounds; unfinished = u } in

@@ -9,7 +9,7 @@ use Rattle.xn_kinds.specs.State.{empty_state}
 use Rattle.xn_kinds.specs.Tree.{BeginsProof, Proves}
 use Rattle.xn_kinds.specs.declared.rows.Row.{Row}
 use Rattle.xn_kinds.specs.declared.trees.Node.{Node}
-use Rattle.xn_search.specs.Choice.{IsDrawn}
+use Rattle.xn_search.specs.Choice.{IsCountedDrawing}
 use Rattle.xn_search.specs.declared.searches.Searched.{Searched}
 
 -- the first tree proves 1, the next 2 and so on
@@ -22,7 +22,7 @@ nodes_in r = total length r.rounds + length r.unfinished
 
 -- the drawing has the fewest crossings, or the budget is spent
 pub record IsSearch (g : Graph) (budget : ℕ) (r : Searched) : Type 0 where
-  pub drawn : IsDrawn g r.drawn
+  pub drawn : IsCountedDrawing g r.drawn
   -- what is proved
   pub at_most : r.lower ≤ r.drawn.crossings
   pub least : IsAtLeast g r.lower

@@ -5,7 +5,7 @@ ghost use Rattle.xn_kinds.specs.State.{IsState};
 ghost use Rattle.xn_kinds.specs.declared.trees.Node.TheVariants.{Leaf};
 ghost use Rattle.xn_effort.specs.Potential.{ones_in};
 ghost use Rattle.xn_tree.specs.Given.{state_of};
-ghost use Rattle.xn_search.specs.Choice.{GrowsTo, IsChoice};
+ghost use Rattle.xn_search.specs.Choice.{GrowsTo, IsRoundDecision};
 ghost use Rattle.xn_search.specs.Ones.{EndsWith};
 ghost use Rattle.xn_search.specs.Rounds.{IsRound};
 
@@ -110,7 +110,7 @@ fn choose<D: Decider>(
     ensures more { IfOk result (λ _. GrowsTo rows.old.items rows.new.items) }
     ensures hold { IfOk result (λ _. All (RowHolds claim.now.graph.now) rows.new.items) }
     ensures few { IfOk result (λ _. length rows.new.items ≤ max (length rows.old.items) 800000 + 1) }
-    ensures chosen { IfOk result (IsChoice claim.now.graph.now claim.now.crossings rows.new.items (state_of given.now)) }
+    ensures chosen { IfOk result (IsRoundDecision claim.now.graph.now claim.now.crossings rows.new.items (state_of given.now)) }
 {
     closing_leaves();
     if is_full(claim, ones) {

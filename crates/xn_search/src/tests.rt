@@ -5,7 +5,7 @@ ghost use Rattle.xn_kinds.specs.Tree.{Fits, MayOpen};
 ghost use Rattle.xn_kinds.specs.declared.trees.Node.TheVariants.{Pair};
 ghost use Rattle.xn_rows.specs.Holding.{HasSizes};
 ghost use Rattle.xn_tree.specs.Given.{state_of};
-ghost use Rattle.xn_search.specs.Choice.{GrowsTo, IsDrawn};
+ghost use Rattle.xn_search.specs.Choice.{GrowsTo, IsCountedDrawing};
 
 use super::*;
 use std::alloc::{AllocError, Global};
@@ -153,7 +153,7 @@ fn row_of_all(alloc: Global) -> Result<Row, AllocError> {
 
 /// A drawing of the graph, which is K5.
 fn drawn(alloc: Global, graph: &Graph) -> Result<Drawn, Fail>
-    ensures { IfOk result (IsDrawn graph.now) }
+    ensures { IfOk result (IsCountedDrawing graph.now) }
 {
     let mut lists = Vec::new(alloc);
     for e in 0u32..10 {

@@ -8,7 +8,7 @@ use Rattle.std.proofs.lemmas.List.Elements.{All-head, All-push, All-tail, All-we
 use Rattle.std.proofs.lemmas.Map.Keys.{IsDistinct-from_apart}
 use Rattle.std.proofs.lemmas.Map.Steps.{length-le_from_distinct_below}
 use Rattle.xn_model.specs.Lists.{at, has, position_in}
-use Rattle.xn_tidy.specs.Numbering.{AreInverse, HasNumber, with_row}
+use Rattle.xn_tidy.specs.Numbering.{AreNumbered, HasNumber, with_row}
 use Rattle.xn_tidy.proofs.Positions.{at_position, has-get_or, position-last}
 
 any_below : (n : ℕ) (xs : List ℕ) → All (λ x. x < n) xs → (q : ℕ) → list_any (eqb q) xs ≡ true → q < n
@@ -24,14 +24,14 @@ no_number (suc count) zero n h = cc
 no_number (suc count) (suc i) n h = no_number count i n h
 
 -- at first there is no number
-pub nothing_numbered : (numbers : List (Option ℕ)) (order : List ℕ) (count : ℕ) → numbers ≡ replicate count None → order ≡ [] → AreInverse numbers order
-nothing_numbered numbers order count numbers_are order_is = subst (λ (o : List ℕ). AreInverse numbers o) (sym order_is) (record {
+pub nothing_numbered : (numbers : List (Option ℕ)) (order : List ℕ) (count : ℕ) → numbers ≡ replicate count None → order ≡ [] → AreNumbered numbers order
+nothing_numbered numbers order count numbers_are order_is = subst (λ (o : List ℕ). AreNumbered numbers o) (sym order_is) (record {
   below = λ i d small. absurd (omega (arith, small));
   numbered = λ i n has_it. absurd (no_number count i n (ap (λ xs. get_or xs i None) (sym numbers_are) ∙ has_it));
   ordered = λ n small. absurd (omega (arith, small));
 })
 
-module _ (numbers : List (Option ℕ)) (order : List ℕ) (inverse : AreInverse numbers order) where
+module _ (numbers : List (Option ℕ)) (order : List ℕ) (inverse : AreNumbered numbers order) where
   -- no row has two numbers
   one_number : (m n : ℕ) → m < length order → n < length order → at order m ≡ at order n → m ≡ n
   one_number m n m_in n_in same =
@@ -105,7 +105,7 @@ module _ (numbers : List (Option ℕ)) (order : List ℕ) (inverse : AreInverse 
             ∙ get_or-set_other numbers i (at order n) (Some (length order)) None other ∙ inverse.ordered n n_in
       ]
 
-      pub still_inverse : AreInverse (set numbers i (Some (length order))) (order ++ i ∷ [])
+      pub still_inverse : AreNumbered (set numbers i (Some (length order))) (order ++ i ∷ [])
       still_inverse = record {
         below = λ k d k_in. omega (arith, All-push (λ x. x < length numbers) order i inverse.below below k d k_in, length-set numbers i (Some (length order)));
         numbered = numbered_then;

@@ -18,7 +18,7 @@ abbrev pub named_of : List (Option ℕ) → List ℕ → Named
 named_of numbers order = record { count = length numbers; order = order }
 
 -- the table has the numbers of the rows, and the list the rows of the numbers
-pub record AreInverse (numbers : List (Option ℕ)) (order : List ℕ) : Type 0 where
+pub record AreNumbered (numbers : List (Option ℕ)) (order : List ℕ) : Type 0 where
   pub below : All (λ i. i < length numbers) order
   pub numbered : (i n : ℕ) → slice_index_or numbers i None ≡ Some n → (n < length order) × (at order n ≡ i)
   pub ordered : (n : ℕ) → n < length order → slice_index_or numbers (at order n) None ≡ Some n

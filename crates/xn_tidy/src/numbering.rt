@@ -13,13 +13,13 @@ pub struct Numbering {
 }
 
 impl Model for Numbering {
-    ghost use Rattle.xn_tidy.specs.Numbering.{AreInverse, Named, named_of};
+    ghost use Rattle.xn_tidy.specs.Numbering.{AreNumbered, Named, named_of};
 
     ghost Value = { Named };
 
     ghost view = { λ n. named_of n.numbers.items n.order.items };
 
-    ghost invariant = { λ n. AreInverse n.numbers.items n.order.items };
+    ghost invariant = { λ n. AreNumbered n.numbers.items n.order.items };
 }
 
 impl Numbering {

@@ -4,7 +4,7 @@ use Rattle.xn_tree.specs.Given.{state_of}
 use Rattle.xn_tree.specs.Walk.{pending_of}
 use Rattle.xn_effort.specs.Leads.{Searches}
 use Rattle.xn_effort.specs.Potential.{ones_in}
-use Rattle.xn_search.specs.Choice.{IsChoice}
+use Rattle.xn_search.specs.Choice.{IsRoundDecision}
 use Rattle.xn_search.specs.Ones.{EndsWith}
 use Rattle.xn_search.proofs.Opened.{extends_more, few_rows, found_ends, goes_first, goes_on, keeps_fits, not_where, proved_ends, spent_ends, state_first}
 use Rattle.xn_search.proofs.Pushed.{first_counted}
@@ -44,7 +44,7 @@ count_children-requires-clause-fits g c =
     let t = c.args.claim.now.crossings in
     let s = state_of c.given-given.result.now in
     let rows = c.choose.new.rows.items in
-    let searches : Searches c.args.claim.now.graph.now t rows s c.in-Open.node = subst (IsChoice c.args.claim.now.graph.now t rows s) c.in-Open.is c.in_ok-drawn.ensures.chosen in
+    let searches : Searches c.args.claim.now.graph.now t rows s c.in-Open.node = subst (IsRoundDecision c.args.claim.now.graph.now t rows s) c.in-Open.is c.in_ok-drawn.ensures.chosen in
     keeps_fits c.args.claim.now.graph.now t rows s c.in-Open.node searches.0
 
 pub count_children-requires-clause-searched : goal.count_children-requires-clause-searched
@@ -52,7 +52,7 @@ count_children-requires-clause-searched g c =
     let t = c.args.claim.now.crossings in
     let s = state_of c.given-given.result.now in
     let rows = c.choose.new.rows.items in
-    let searches : Searches c.args.claim.now.graph.now t rows s c.in-Open.node = subst (IsChoice c.args.claim.now.graph.now t rows s) c.in-Open.is c.in_ok-drawn.ensures.chosen in
+    let searches : Searches c.args.claim.now.graph.now t rows s c.in-Open.node = subst (IsRoundDecision c.args.claim.now.graph.now t rows s) c.in-Open.is c.in_ok-drawn.ensures.chosen in
     searches.1
 
 pub count_children-requires-clause-counted : goal.count_children-requires-clause-counted
@@ -76,7 +76,7 @@ pub returns-in-Found-clause-round : goal.returns-in-Found-clause-round
 returns-in-Found-clause-round g c =
     let t = c.args.claim.now.crossings in
     let rows = c.choose.new.rows.items in
-    let found = subst (IsChoice c.args.claim.now.graph.now t rows (state_of c.given-given.result.now)) c.in-Found.is c.in_ok-drawn.ensures.chosen in
+    let found = subst (IsRoundDecision c.args.claim.now.graph.now t rows (state_of c.given-given.result.now)) c.in-Found.is c.in_ok-drawn.ensures.chosen in
     record {
       within = omega (arith, c.loop-spent-test.true);
       ends = found_ends c.more_rows.ensures.rounds c.rounds.ensures.more c.args.claim.now.graph.now t c.loop-spent.spent c.args.rows.now.items c.loop-spent.rows.items rows c.loop-spent.walk
@@ -94,7 +94,7 @@ returns-then-is_finished-clause-round g c =
     let t = c.args.claim.now.crossings in
     let s = state_of c.given-given.result.now in
     let rows = c.choose.new.rows.items in
-    let searches : Searches c.args.claim.now.graph.now t rows s c.in-Open.node = subst (IsChoice c.args.claim.now.graph.now t rows s) c.in-Open.is c.in_ok-drawn.ensures.chosen in
+    let searches : Searches c.args.claim.now.graph.now t rows s c.in-Open.node = subst (IsRoundDecision c.args.claim.now.graph.now t rows s) c.in-Open.is c.in_ok-drawn.ensures.chosen in
     record {
       within = omega (arith, c.loop-spent-test.true);
       ends = proved_ends c.more_rows.ensures.rounds c.rounds.ensures.more c.args.claim.now.graph.now t c.loop-spent.spent c.args.rows.now.items c.loop-spent.rows.items rows c.loop-spent.walk
@@ -107,7 +107,7 @@ loop-spent-preserved g c =
     let t = c.args.claim.now.crossings in
     let s = state_of c.given-given.result.now in
     let rows = c.choose.new.rows.items in
-    let searches : Searches c.args.claim.now.graph.now t rows s c.in-Open.node = subst (IsChoice c.args.claim.now.graph.now t rows s) c.in-Open.is c.in_ok-drawn.ensures.chosen in
+    let searches : Searches c.args.claim.now.graph.now t rows s c.in-Open.node = subst (IsRoundDecision c.args.claim.now.graph.now t rows s) c.in-Open.is c.in_ok-drawn.ensures.chosen in
     record {
       goes = goes_on c.more_rows.ensures.rounds c.rounds.ensures.more c.args.claim.now.graph.now t c.loop-spent.spent c.args.rows.now.items c.loop-spent.rows.items rows c.loop-spent.walk
           c.loop-spent.ones.items c.loop-spent.nodes.items c.loop-spent.invariant.goes c.in_ok-drawn.ensures.more c.open.new.self s c.in-Open.node c.in_ok-open-in-Open.field-0 c.given-given.ensures.state searches

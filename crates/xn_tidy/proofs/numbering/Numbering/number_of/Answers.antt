@@ -1,7 +1,7 @@
 use Rattle.std.proofs.Common.{◌≡◌, ◌<◌, ◌≤◌, ◌^◌, ℕ, List, [], ◌∷◌, ◌++◌, ◌∙◌, ap, arith, length, refl, subst, sym, get_or}
 use Rattle.std.specs.Prelude.{Option, Some, None, slice_set}
 use Rattle.std.proofs.lemmas.List.{get_or_read}
-use Rattle.xn_tidy.specs.Numbering.{AreInverse, HasNumber, Named}
+use Rattle.xn_tidy.specs.Numbering.{AreNumbered, HasNumber, Named}
 use Rattle.xn_tidy.proofs.Inverse.{few_numbers, known_number, next_number, still_inverse}
 use Rattle.xn_tidy.proofs.numbering.Numbering.number_of.Goals as goal
 
@@ -26,8 +26,8 @@ invariant_of-self-2 c =
     let unknown : get_or numbers c.args.i None ≡ None = sym (get_or_read numbers c.args.i _ small c.index.ensures None) ∙ c.in_default.is in
     let number : c.len-n.result ≡ length order = omega (arith, c.len-n.ensures, c.self.inside.order.ok.0) in
     let inverse = still_inverse numbers order c.self.invariant c.args.i unknown small in
-    subst (λ (n : ℕ). AreInverse (slice_set numbers c.args.i (Some n)) c.push.new.self.items) (sym number)
-    (subst (λ (o : List ℕ). AreInverse (slice_set numbers c.args.i (Some (length order))) o) (sym c.in_ok-push.ensures.items) inverse)
+    subst (λ (n : ℕ). AreNumbered (slice_set numbers c.args.i (Some n)) c.push.new.self.items) (sym number)
+    (subst (λ (o : List ℕ). AreNumbered (slice_set numbers c.args.i (Some (length order))) o) (sym c.in_ok-push.ensures.items) inverse)
 
 pub returns-clause-number : goal.returns-clause-number
 returns-clause-number c =
