@@ -1,4 +1,5 @@
 mod Answered
+mod Asked
 mod Opened
 mod Pushed
 mod Searching
