@@ -1,5 +1,5 @@
 ghost use Rattle.std.specs.Prelude.{◌≡◌, IfOk, length};
-ghost use Rattle.xn_model.specs.Drawing.{drawn_web, order_of};
+ghost use Rattle.xn_model.specs.Drawing.{IsListedDrawing, drawn_web, order_of};
 ghost use Rattle.xn_model.specs.Graph.{HasNoLoop, edges_of};
 ghost use Rattle.xn_model.specs.Orders.{IsEdgeList, IsOrders};
 ghost use Rattle.xn_kinds.specs.State.{IsState};
@@ -47,6 +47,10 @@ pub trait Planes {
         requires orders { IsOrders graph.now.ends (edges_of graph.now) (order_of graph.now orders.now) }
         requires map { IsFlatMapOf (drawn_web graph.now orders.now) map }
         ensures { IfOk result (HasNoMore graph.now orders.now) };
+
+    /// Some drawing of a graph. It fails only for want of memory.
+    fn upper(&mut self, alloc: Global, graph: &Graph) -> Result<Drawing, AllocError>
+        ensures { IfOk result (λ d. IsListedDrawing graph.now d.orders d.next) };
 }
 
 /// What planting the crossings of a state comes to.

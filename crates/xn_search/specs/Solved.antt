@@ -41,6 +41,7 @@ pub record IsSolved (g : Graph) (budget : ℕ) (r : Solved) : Type 0 where
   pub drawing : IsListedDrawing g r.drawing.orders r.drawing.next
   pub accepted : Accepts g r.lower r.rows r.tree
   pub first_use : ByFirstUse r.rows r.tree
+  pub few_rows : length r.rows ≤ 800000 + r.spent
   pub at_most : r.lower ≤ crossings_of g r
   pub undecided : r.lower < crossings_of g r → (r.spent ≡ budget) × IsBelowLimit g budget
   pub in_budget : r.spent ≤ budget
@@ -48,3 +49,9 @@ pub record IsSolved (g : Graph) (budget : ℕ) (r : Solved) : Type 0 where
   pub none : r.lower ≡ 0 → (r.rows ≡ []) × (r.tree ≡ Leaf 1 [] ∷ [])
   pub few_nodes : 1 ≤ r.lower → length r.tree ≤ r.spent
   pub work : IsWork g r
+
+-- nothing crosses, nothing is shown and nothing is spent
+pub record IsFree (g : Graph) (r : Solved) : Type 0 where
+  pub lower : r.lower ≡ 0
+  pub crossings : crossings_of g r ≡ 0
+  pub spent : r.spent ≡ 0

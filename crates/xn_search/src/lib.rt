@@ -7,6 +7,7 @@ mod ones;
 mod round;
 mod searches;
 mod solved;
+mod solving;
 #[cfg(test)]
 mod tests;
 
@@ -14,3 +15,4 @@ pub use branching::{ByPlanting, counted};
 pub use decisions::{Claim, Decider, Decision, Drawn};
 pub use searches::{Searched, search};
 pub use solved::{Solved, Work, solve_from};
+pub use solving::solve;

@@ -1,21 +1,17 @@
-//! The search of K5: it branches on pairs, and where none is open it takes the row of all edges.
-ghost use Rattle.std.specs.Prelude.{◌≡◌, ◌↔◌, ◌+◌, ◌<◌, ◌≤◌, All, IfOk, IfSome, IsTrue, length};
-ghost use Rattle.xn_kinds.specs.Row.{RowHolds};
-ghost use Rattle.xn_kinds.specs.Tree.{Fits, MayOpen};
-ghost use Rattle.xn_kinds.specs.declared.trees.Node.TheVariants.{Pair};
-ghost use Rattle.xn_rows.specs.Holding.{HasSizes};
-ghost use Rattle.xn_tree.specs.Given.{state_of};
-ghost use Rattle.xn_search.specs.Choice.{GrowsTo, IsCountedDrawing};
+//! The search of K5 by planting: it branches on pairs, and where none is open the row of all edges closes the state.
+ghost use Rattle.std.specs.Prelude.{◌≤◌};
 
 use super::*;
 use std::alloc::{AllocError, Global};
 use std::test::Fail;
 use xn_draw::examine;
-use xn_graph::Graph;
-use xn_kinds::{Drawing, Evidence, Node, Orders, Paths, Row};
+use xn_graph::{Graph, Web};
+use xn_kinds::{Drawing, Orders};
+use xn_kura::find_kind;
 use xn_list::Sequence;
-use xn_rows::row_holds;
-use xn_tree::{Given, bound};
+use xn_map::Map;
+use xn_plant::{Planarity, Planes};
+use xn_sound::laws::rows;
 
 /// The edges of K5.
 const ENDS: [(u32, u32); 10] = [
@@ -36,125 +32,40 @@ const NEXT: [u32; 24] = [
     6, 22, 21, 14, 8, 16, 4, 20, 0, 19, 12, 18, 3, 17, 10, 23, 11, 7, 5, 15, 13, 1, 2, 9,
 ];
 
-/// Branches on the first open pair, and closes a state without one by the row.
+/// Knows the webs that are subdivisions of K5 or K3,3, and a drawing of K5.
 #[derive(Drop)]
-struct Branching;
+struct Known;
 
-impl Decider for Branching {
-    fn decide(
+impl Planes for Known {
+    fn planar(&mut self, alloc: Global, web: &Web) -> Result<Planarity, AllocError> {
+        rows();
+        match find_kind(alloc, web)? {
+            Some(evidence) => Ok(Planarity::Not(evidence)),
+            None => Err(AllocError),
+        }
+    }
+
+    fn untouch(
         &mut self,
-        alloc: Global,
-        claim: &Claim,
-        given: &Given,
-        rows: &mut Vec<Row>,
-    ) -> Result<Decision, AllocError> {
-        if let Some((e, f)) = first_open(claim.graph, given) {
-            return Ok(Decision::Open(Node::Pair(e, f)));
-        }
-        know_row(alloc, claim.graph, rows)?;
-        let leaf = row_leaf(alloc, claim, given, rows.as_slice())?;
-        Ok(Decision::Open(leaf))
+        _alloc: Global,
+        _graph: &Graph,
+        _orders: &Orders,
+        _map: Map,
+    ) -> Result<Drawing, AllocError> {
+        Err(AllocError)
     }
-}
 
-/// The first independent pair that is undecided.
-fn first_open(graph: &Graph, given: &Given) -> Option<(u32, u32)>
-    requires { given.now.graph ≡ graph.now }
-    ensures { IfSome result (λ p. Fits graph.now (state_of given.now) (Pair p.0 p.1)) }
-{
-    for e in 0..graph.edges() {
-        for f in e + 1..graph.edges() {
-            if is_open(graph, given, e, f) {
-                return Some((e, f));
-            }
+    fn upper(&mut self, alloc: Global, graph: &Graph) -> Result<Drawing, AllocError> {
+        let drawing = drawing_of_k5(alloc)?;
+        match examine(alloc, graph, &drawing) {
+            Ok(_) => Ok(drawing),
+            Err(_) => Err(AllocError),
         }
     }
-    None
 }
 
-/// Whether the pair of two edges, the smaller first, is independent and undecided.
-fn is_open(graph: &Graph, given: &Given, e: u32, f: u32) -> bool
-    requires graph { given.now.graph ≡ graph.now }
-    requires rises { e < f }
-    requires below { f < length graph.now.ends }
-    ensures { IsTrue result ↔ Fits graph.now (state_of given.now) (Pair e f) }
-{
-    graph.independent(e, f) && given.value(e, f).is_none()
-}
-
-/// Adds the row of all edges, where it holds.
-fn know_row(alloc: Global, graph: &Graph, rows: &mut Vec<Row>) -> Result<(), AllocError>
-    requires { All (RowHolds graph.now) rows.old.items }
-    ensures more { IfOk result (λ _. GrowsTo rows.old.items rows.new.items) }
-    ensures hold { IfOk result (λ _. All (RowHolds graph.now) rows.new.items) }
-    ensures few { IfOk result (λ _. length rows.new.items ≤ length rows.old.items + 1) }
-    ensures some { IfOk result (λ _. 0 < length rows.new.items) }
-{
-    let row = row_of_all(alloc)?;
-    if !has_sizes(&row) {
-        return Err(AllocError);
-    }
-    match row_holds(alloc, graph, &row) {
-        Ok(()) => rows.push(row)?,
-        Err(_) => return Err(AllocError),
-    }
-    Ok(())
-}
-
-/// Whether there is a list for each edge, and a Five has ten paths.
-fn has_sizes(row: &Row) -> bool
-    ensures { IsTrue result → HasSizes row.now }
-{
-    match &row.evidence {
-        Evidence::Five { branch, paths } => {
-            row.orders.len() == row.edges.len() && branch.as_slice().len() == 5 && paths.len() == 10
-        }
-        _ => false,
-    }
-}
-
-/// The leaf that takes the first row.
-fn row_leaf(alloc: Global, claim: &Claim, given: &Given, rows: &[Row]) -> Result<Node, AllocError>
-    requires graph { given.now.graph ≡ claim.now.graph.now }
-    requires hold { All (RowHolds claim.now.graph.now) rows.now }
-    requires some { 0 < length rows.now }
-    ensures { IfOk result (MayOpen claim.now.graph.now claim.now.crossings rows.now (state_of given.now)) }
-{
-    let parts = vec![in alloc; (0, 1)]?;
-    let least = bound(claim.graph, given, rows, parts.as_slice(), 1);
-    if least < i128::from(claim.crossings) {
-        return Err(AllocError);
-    }
-    Ok(Node::Leaf {
-        d: 1,
-        parts: Sequence::new(parts),
-    })
-}
-
-/// The row of all edges of K5, without crossings.
-fn row_of_all(alloc: Global) -> Result<Row, AllocError> {
-    let mut orders = Vec::new(alloc);
-    let mut paths = Vec::new(alloc);
-    let mut edges = Vec::new(alloc);
-    for e in 0u32..10 {
-        edges.push(e)?;
-        orders.push(Vec::new(alloc))?;
-        paths.push([e].to_vec(alloc)?)?;
-    }
-    Ok(Row {
-        edges: Sequence::new(edges),
-        orders: Orders::new(orders),
-        evidence: Evidence::Five {
-            branch: [0, 1, 2, 3, 4],
-            paths: Paths::new(paths),
-        },
-    })
-}
-
-/// A drawing of the graph, which is K5.
-fn drawn(alloc: Global, graph: &Graph) -> Result<Drawn, Fail>
-    ensures { IfOk result (IsCountedDrawing graph.now) }
-{
+/// A drawing of K5 with one crossing.
+fn drawing_of_k5(alloc: Global) -> Result<Drawing, AllocError> {
     let mut lists = Vec::new(alloc);
     for e in 0u32..10 {
         let mut list = Vec::new(alloc);
@@ -163,17 +74,9 @@ fn drawn(alloc: Global, graph: &Graph) -> Result<Drawn, Fail>
         }
         lists.push(list)?;
     }
-    let drawing = Drawing {
+    Ok(Drawing {
         orders: Orders::new(lists),
         next: Sequence::new(Vec::from_slice(alloc, &NEXT)?),
-    };
-    let seen = examine(alloc, graph, &drawing)?;
-    if seen.crossings != 1 {
-        return Err("another drawing")?;
-    }
-    Ok(Drawn {
-        drawing,
-        crossings: 1,
     })
 }
 
@@ -182,8 +85,8 @@ fn found(alloc: Global, budget: u64) -> Result<(u32, u64, usize, usize), Fail>
     requires { budget ≤ 200000 }
 {
     let graph = Graph::make(5, Vec::from_slice(alloc, &ENDS)?)?;
-    let first = drawn(alloc, &graph)?;
-    let solved = solve_from(alloc, &graph, first, budget, &mut Branching)?;
+    let mut decider = ByPlanting { planes: Known };
+    let solved = solve(alloc, &graph, budget, &mut decider)?;
     Ok((
         solved.lower,
         solved.spent,

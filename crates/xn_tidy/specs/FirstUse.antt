@@ -1,5 +1,5 @@
 -- Rows in the order in which the leaves of a tree name them first.
-use Rattle.std.specs.Prelude.{◌≡◌, ◌⊎◌, ℕ, suc, ◌<◌, List, [], ◌∷◌, ◌++◌, length, map}
+use Rattle.std.specs.Prelude.{◌≡◌, ◌⊎◌, ℕ, suc, ◌<◌, ◌≤◌, List, [], ◌∷◌, ◌++◌, length, map}
 use Rattle.xn_model.specs.Graph.{Graph}
 use Rattle.xn_kinds.specs.State.{empty_state}
 use Rattle.xn_kinds.specs.Tree.{Accepts, Proves}
@@ -37,3 +37,4 @@ pub record IsTidied (rows : List Row) (nodes : List Node) (p : Proof) : Type 0 w
   pub accepted : (g : Graph) (k : ℕ) → Accepts g k rows nodes → Accepts g k p.rows p.tree
   pub first_use : ByFirstUse p.rows p.tree
   pub as_long : length p.tree ≡ length nodes
+  pub no_more : length p.rows ≤ length rows

@@ -1,5 +1,5 @@
 // Numbers for rows, in the order in which they are asked for.
-ghost use Rattle.std.specs.Prelude.{◌≡◌, ◌<◌, ◌^◌, [], All, IfOk, OnErr};
+ghost use Rattle.std.specs.Prelude.{◌≡◌, ◌<◌, ◌≤◌, ◌^◌, [], All, IfOk, length};
 ghost use Rattle.xn_tidy.specs.Numbering.{HasNumber};
 
 use std::alloc::{AllocError, Global};
@@ -54,6 +54,7 @@ impl Numbering {
     pub fn order(&self) -> &[u32]
         ensures order { result.now ≡ self.now.order }
         ensures below { All (λ i. i < self.now.count) self.now.order }
+        ensures few { length self.now.order ≤ self.now.count }
     {
         self.order.as_slice()
     }
