@@ -31,6 +31,7 @@ use xn_blocks::blocks;
 use xn_dmp::{Attempt, try_embed};
 use xn_graph::Web;
 use xn_kinds::{Evidence, Paths};
+use xn_map::Map;
 use xn_planar::{MinimalWeb, Planarity, minimal, planar};
 
 /// Whether no segment joins a node to itself.
@@ -88,28 +89,39 @@ fn show(rt: &HostRuntime, branch: &[u32], paths: &Paths) -> io::Result<()> {
     Ok(())
 }
 
+/// Prints the turns of a map.
+fn show_map(rt: &HostRuntime, map: &Map) -> io::Result<()> {
+    print!(rt; "flat")?;
+    for d in 0..2 * map.web().segments() {
+        print!(rt; " {}", map.next(d))?;
+    }
+    println!(rt; "")
+}
+
+/// Prints an evidence.
+fn show_evidence(rt: &HostRuntime, evidence: &Evidence) -> io::Result<()> {
+    match evidence {
+        Evidence::Five { branch, paths } => {
+            print!(rt; "five")?;
+            show(rt, branch, paths)?;
+        }
+        Evidence::ThreeThree { branch, paths } => {
+            print!(rt; "three")?;
+            show(rt, branch, paths)?;
+        }
+        Evidence::Extension { .. } => print!(rt; "extension")?,
+    }
+    println!(rt; "")
+}
+
 /// Prints what is answered for a web.
 fn answer(rt: &HostRuntime, web: &Web) -> io::Result<()>
     requires { HasNoLoop web.now.ends }
 {
     match planar(rt.alloc(), web)? {
-        Planarity::Flat(map) => {
-            print!(rt; "flat")?;
-            for d in 0..2 * map.web().segments() {
-                print!(rt; " {}", map.next(d))?;
-            }
-        }
-        Planarity::Not(Evidence::Five { branch, paths }) => {
-            print!(rt; "five")?;
-            show(rt, &branch, &paths)?;
-        }
-        Planarity::Not(Evidence::ThreeThree { branch, paths }) => {
-            print!(rt; "three")?;
-            show(rt, &branch, &paths)?;
-        }
-        Planarity::Not(Evidence::Extension { .. }) => print!(rt; "extension")?,
+        Planarity::Flat(map) => show_map(rt, &map),
+        Planarity::Not(evidence) => show_evidence(rt, &evidence),
     }
-    println!(rt; "")
 }
 
 /// Runs one call. Answers whether there is a flat map, or how many blocks or segments of a core there are.
