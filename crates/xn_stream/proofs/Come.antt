@@ -12,7 +12,7 @@ use Rattle.xn_proof.specs.declared.flaw.AnswerErr.TheVariants as errors
 use Rattle.xn_proof.specs.declared.item.Item.{Item}
 use Rattle.xn_proof.specs.declared.places.Place.{Place}
 use Rattle.xn_check.specs.Judging.{AtEnd, Judges, JudgesTo, KeepsRules, OnLine, Rules, StopsAt, Took}
-use Rattle.xn_stream.specs.Pieces.{AreLines, FailsNext, Finds, GoesOn, HasCome, HoldsFlaw, LeadTo, whole_lines, with_end}
+use Rattle.xn_stream.specs.Pieces.{AreLines, FailsNext, ComesOrFails, OnKept, HasCome, HoldsFlaw, LeadTo, whole_lines, with_end}
 use Rattle.xn_stream.proofs.TextLines.{ended_first, last_only, some_first, whole_more}
 
 -- ---- lines behind the end, and lines that aren't ended
@@ -41,13 +41,13 @@ not_ended at bytes e = ap (next_by at.0) (last_line (is_end at.1) (trailing at.0
 module _ {S A : Type 0} (rules : Rules S A) where
   -- ---- whole lines
 
-  pub goes_with : (s : S) (r : Result (Item × Reached) Flaw) (P Q : Reached → S → Type 0) → GoesOn rules s r P → ((a : Reached) (t : S) → P a t → Q a t) →
-      GoesOn rules s r Q
+  pub goes_with : (s : S) (r : Result (Item × Reached) Flaw) (P Q : Reached → S → Type 0) → OnKept rules s r P → ((a : Reached) (t : S) → P a t → Q a t) →
+      OnKept rules s r Q
   goes_with s (Ok next) P Q h more = (h.0, more next.1 (rules.more s next.0) h.1)
   goes_with s (Err flaw) P Q h more = absurd h
 
   kept_goes : (s t : S) (later : Reached) (r : Result (Item × Reached) Flaw) → KeepsRules rules s r later t →
-      GoesOn rules s r (λ a u. (later ≡ a) × (t ≡ u))
+      OnKept rules s r (λ a u. (later ≡ a) × (t ≡ u))
   kept_goes s t later (Ok next) h = (h.0, (h.1, h.2))
   kept_goes s t later (Err flaw) h = absurd h
 
@@ -73,7 +73,7 @@ module _ {S A : Type 0} (rules : Rules S A) where
 
   -- ---- what comes of the lines that follow comes of the text
 
-  on_line : (s : S) (number : ℕ) (r : Result (Item × Reached) Flaw) (P Rest : Reached → S → Type 0) (o : Result A Flaw) → GoesOn rules s r P →
+  on_line : (s : S) (number : ℕ) (r : Result (Item × Reached) Flaw) (P Rest : Reached → S → Type 0) (o : Result A Flaw) → OnKept rules s r P →
       ((a : Reached) (t : S) → P a t → Rest a t) → OnLine rules s number r Rest o
   on_line s number (Ok next) P Rest o h more = inl (h.0, more next.1 (rules.more s next.0) h.1)
   on_line s number (Err flaw) P Rest o h more = absurd h
@@ -161,7 +161,7 @@ module _ {S A : Type 0} (rules : Rules S A) where
 
   -- behind the line `end`
   stops_behind : (text more : List ℕ) (at later : Reached) (s t : S) (begun after : List ℕ) (line : Line) (r : Result (Unit {0}) AnswerErr) → HasCome rules text at s begun →
-      is_end at.1 ≡ true → 0 < length more → Took rules at s line later t r → Finds rules (text ++ more) later t after r
+      is_end at.1 ≡ true → 0 < length more → Took rules at s line later t r → ComesOrFails rules (text ++ more) later t after r
   stops_behind text more at later s t begun after line (Ok u) come e some kept =
       absurd (subst (λ (n : Result (Item × Reached) Flaw). KeepsRules rules s n later t) (behind_end at line e) kept)
   stops_behind text more at later s t begun after line (Err errors.Memory) come e some stops = tt
@@ -191,7 +191,7 @@ module _ {S A : Type 0} (rules : Rules S A) where
 
   -- the end of a line that begins so
   line_comes : (text bytes line : List ℕ) (at later : Reached) (s t : S) (begun : List ℕ) (r : Result (Unit {0}) AnswerErr) → HasCome rules text at s begun →
-      Lacks 10 bytes → line ≡ begun ++ bytes → Took rules at s (line, true) later t r → Finds rules (text ++ (bytes ++ 10 ∷ [])) later t [] r
+      Lacks 10 bytes → line ≡ begun ++ bytes → Took rules at s (line, true) later t r → ComesOrFails rules (text ++ (bytes ++ 10 ∷ [])) later t [] r
   line_comes text bytes line at later s t begun (Ok u) come lacks is kept =
       let all : Lacks 10 line = subst (Lacks 10) (sym is) (All-append (λ b. b ≢ 10) begun bytes come.lacks lacks) in
       let same : text ++ (bytes ++ 10 ∷ []) ≡ come.whole ++ (line ++ 10 ∷ []) =
@@ -223,13 +223,13 @@ module _ {S A : Type 0} (rules : Rules S A) where
 
   pub found_behind : (text bytes : List ℕ) (ended : Bool) (at later : Reached) (s t : S) (begun after : List ℕ) (r : Result (Unit {0}) AnswerErr) →
       HasCome rules text at s begun → is_end at.1 ≡ true → 0 < length (with_end bytes ended) → Took rules at s (bytes, ended) later t r →
-      Finds rules (text ++ with_end bytes ended) later t after r
+      ComesOrFails rules (text ++ with_end bytes ended) later t after r
   found_behind text bytes ended at later s t begun after r come e some took =
       stops_behind text (with_end bytes ended) at later s t begun after (bytes, ended) r come e some took
 
   pub found_line : (text bytes line : List ℕ) (at later : Reached) (s t : S) (begun after : List ℕ) (r : Result (Unit {0}) AnswerErr) →
       HasCome rules text at s begun → Lacks 10 bytes → line ≡ begun ++ bytes → after ≡ [] → Took rules at s (line, true) later t r →
-      Finds rules (text ++ with_end bytes true) later t after r
+      ComesOrFails rules (text ++ with_end bytes true) later t after r
   found_line text bytes line at later s t begun after r come lacks is none took =
-      subst (λ (x : List ℕ). Finds rules (text ++ with_end bytes true) later t x r) (sym none)
+      subst (λ (x : List ℕ). ComesOrFails rules (text ++ with_end bytes true) later t x r) (sym none)
       (line_comes text bytes line at later s t begun r come lacks is took)
