@@ -1,7 +1,6 @@
 -- As many crossings are planted among all edges as pairs are decided 1.
-use Rattle.std.proofs.Common.{◌≡◌, ℕ, ◌<◌, ◌⊎◌, inl, inr, Bool, true, false, ◌&&◌, List, length, refl, sym, ◌∙◌, ap, arith}
+use Rattle.std.proofs.Common.{◌≡◌, ℕ, ◌<◌, ◌⊎◌, inl, inr, Bool, true, false, ◌&&◌, List, length, refl, sym, ap, arith}
 use Rattle.std.specs.Prelude.{Some}
-use Rattle.std.proofs.lemmas.Bool.{both_ways, cases_Bool}
 use Rattle.xn_model.specs.Graph.{Graph, each_two, edges_of, independent}
 use Rattle.xn_model.specs.Lists.{has}
 use Rattle.xn_model.specs.Orders.{IsEdgeList, crossing_count, order_at}
@@ -42,6 +41,6 @@ planted_count g s state =
     each e f e_in f_in less =
         same _ (independent g.ends e f) (is_one (s.decided e f))
         (λ f_there.
-            let is = decided e f less (order_crosses g s state (edges_of g) edges e f f_there).1 in
-            (state.independent e f true is, ap is_one is))
+        let is = decided e f less (order_crosses g s state (edges_of g) edges e f f_there).1 in
+        (state.independent e f true is, ap is_one is))
         (λ apart one. crosses_order g s state (edges_of g) edges e f e_in f_in (inl (one_is (s.decided e f) one)))

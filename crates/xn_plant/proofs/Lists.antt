@@ -1,8 +1,8 @@
 -- Words on lists: what is distinct, and what is taken from each two.
-use Rattle.std.proofs.Common.{◌≡◌, ℕ, zero, suc, ◌+◌, ◌<◌, ◌≤◌, inl, inr, Bool, true, false, ◌&&◌, ◌||◌, eqb, List, [], ◌∷◌, ◌++◌, length, get_or, map, refl, sym, ◌∙◌, ap, subst, arith}
+use Rattle.std.proofs.Common.{◌≡◌, ℕ, zero, suc, ◌<◌, inl, inr, Bool, true, false, ◌&&◌, eqb, List, [], ◌∷◌, ◌++◌, length, get_or, map, refl, sym, ◌∙◌, ap, subst, arith}
 use Rattle.std.specs.Prelude.{All, filter, nat_eq}
 use Rattle.std.specs.List.{IsDistinct}
-use Rattle.std.proofs.lemmas.Bool.{both_ways, cases_Bool, eq-eqb, ne_eqb, or_left, or_right}
+use Rattle.std.proofs.lemmas.Bool.{cases_Bool, eq-eqb, ne_eqb, or_left, or_right}
 use Rattle.std.proofs.lemmas.List.Elements.{All-append, All-head, All-map, All-nil, All-tail}
 use Rattle.xn_model.specs.Graph.{each_two}
 use Rattle.xn_model.specs.Lists.{has, one_if, total}
@@ -20,11 +20,13 @@ has-get_or (x ∷ xs) (suc k) d low = or_right (eqb x (get_or xs k d)) (has xs (
 pub distinct-append : (xs ys : List ℕ) → IsDistinct nat_eq xs → IsDistinct nat_eq ys → ((x : ℕ) → has xs x ≡ true → has ys x ≡ true → ⊥) → IsDistinct nat_eq (xs ++ ys)
 unfolding IsDistinct
 distinct-append [] ys one two apart = two
-distinct-append (x ∷ xs) ys one two apart =
-    (all_made (λ y. nat_eq x y ≡ false) (xs ++ ys) (λ y y_in. elim (has-append xs ys y y_in) [
-      | inl a ↦ all_of (λ z. nat_eq x z ≡ false) xs one.0 y a
-      | inr b ↦ ne_eqb x y (λ same. apart x (has-first x xs) (subst (λ z. has ys z ≡ true) (sym same) b))
-    ]), distinct-append xs ys one.1 two (λ z a b. apart z (has-later x xs z a) b))
+distinct-append (x ∷ xs) ys one two apart = (
+  all_made (λ y. nat_eq x y ≡ false) (xs ++ ys) (λ y y_in. elim (has-append xs ys y y_in) [
+    | inl a ↦ all_of (λ z. nat_eq x z ≡ false) xs one.0 y a
+    | inr b ↦ ne_eqb x y (λ same. apart x (has-first x xs) (subst (λ z. has ys z ≡ true) (sym same) b))
+  ]),
+  distinct-append xs ys one.1 two (λ z a b. apart z (has-later x xs z a) b),
+)
 
 pub distinct-filter : (p : ℕ → Bool) (xs : List ℕ) → IsDistinct nat_eq xs → IsDistinct nat_eq (filter p xs)
 unfolding IsDistinct
@@ -41,8 +43,8 @@ two_all P [] rise each = All-nil P
 two_all P (x ∷ xs) rise each =
     All-append P (map (λ y. (x, y)) xs) (each_two xs)
     (All-map P (λ (y : ℕ). (x, y)) xs (λ k d small.
-        let there = has-get_or xs k d small in
-        each x (get_or xs k d) (has-first x xs) (has-later x xs (get_or xs k d) there) (all_of (λ y. x < y) xs rise.0 (get_or xs k d) there)))
+    let there = has-get_or xs k d small in
+    each x (get_or xs k d) (has-first x xs) (has-later x xs (get_or xs k d) there) (all_of (λ y. x < y) xs rise.0 (get_or xs k d) there)))
     (two_all P xs rise.1 (λ e f e_in f_in less. each e f (has-later x xs e e_in) (has-later x xs f f_in) less))
 
 -- to take out by one test and to count by another is to take out by both

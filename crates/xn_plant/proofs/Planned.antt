@@ -1,8 +1,8 @@
 -- The crossings of a state among some edges are orders over them.
-use Rattle.std.proofs.Common.{◌≡◌, ◌≢◌, ℕ, suc, ◌+◌, ◌<◌, ◌≤◌, ◌⊎◌, inl, inr, Bool, true, false, ◌&&◌, eqb, not, List, [], ◌∷◌, ◌++◌, length, get_or, map, refl, sym, ◌∙◌, ap, ap₂, subst, arith}
-use Rattle.std.specs.Prelude.{All, Option, Some, None, filter, max, min, nat_eq}
+use Rattle.std.proofs.Common.{◌≡◌, ◌≢◌, ℕ, inl, inr, Bool, true, false, ◌&&◌, eqb, not, List, [], ◌∷◌, length, map, refl, sym, ◌∙◌, ap, ap₂, subst, arith}
+use Rattle.std.specs.Prelude.{Option, Some, None, filter, max, min, nat_eq}
 use Rattle.std.specs.List.{IsDistinct}
-use Rattle.std.proofs.lemmas.Bool.{and_from, and_parts, both_ways, cases_Bool, cases_eq, cases_lt, eq-eqb, eqb-true, ne_eqb, not-true}
+use Rattle.std.proofs.lemmas.Bool.{and_from, and_parts, both_ways, cases_Bool, cases_eq, cases_lt, eq-eqb, ne_eqb, not-true}
 use Rattle.xn_model.specs.Graph.{Graph, Independent}
 use Rattle.xn_model.specs.Lists.{has, stands_before}
 use Rattle.xn_model.specs.Orders.{IsEdgeList, IsOrders, order_at}
@@ -119,9 +119,9 @@ module _ (g : Graph) (s : State) (state : IsState g s) where
         (distinct-filter (has edges) (s.placed e) (state.no_repeats e))
         (distinct-filter (is_loose_on s e) edges (rising_distinct edges edge_list.rise))
         (λ x one two.
-            let placed = (has-picked (has edges) (s.placed e) x one).0 in
-            let loose = not-true (has (s.placed e) x) (and_parts (is_planted s e x) (not (has (s.placed e) x)) (has-picked (is_loose_on s e) edges x two).1).1 in
-            both_ways (has (s.placed e) x) loose placed)
+        let placed = (has-picked (has edges) (s.placed e) x one).0 in
+        let loose = not-true (has (s.placed e) x) (and_parts (is_planted s e x) (not (has (s.placed e) x)) (has-picked (is_loose_on s e) edges x two).1).1 in
+        both_ways (has (s.placed e) x) loose placed)
 
     order_distinct : (e : ℕ) → IsDistinct nat_eq (order_at edges (planted_lists s edges) e)
     order_distinct e = elim (cases_Bool (has edges e)) [

@@ -1,5 +1,5 @@
 -- What the planted crossings come to: rows of the state, and drawings.
-use Rattle.std.proofs.Common.{◌≡◌, ℕ, ◌≤◌, eqb, true, List, length, map, refl, sym, ◌∙◌, ap, subst, arith, ◌<◌, get_or}
+use Rattle.std.proofs.Common.{◌≡◌, ℕ, eqb, true, List, length, sym, ◌∙◌, ap, subst, arith, ◌<◌, get_or}
 use Rattle.std.specs.Prelude.{All, IsPermutation}
 use Rattle.std.specs.List.{dedup}
 use Rattle.std.specs.List.Sorted.{IsSorted, IsStrictlyIncreasing}
@@ -9,17 +9,15 @@ use Rattle.std.proofs.lemmas.List.Filters.{All-dedup}
 use Rattle.std.proofs.lemmas.List.FromFn.{length-range_with_len}
 use Rattle.std.proofs.lemmas.List.Sorted.{All-permutation}
 use Rattle.std.proofs.lemmas.Map.Keys.{IsStrictlyIncreasing-dedup}
-use Rattle.xn_model.specs.Drawing.{drawn_web, order_of}
+use Rattle.xn_model.specs.Drawing.{order_of}
 use Rattle.xn_model.specs.Graph.{Graph, edges_of}
 use Rattle.xn_model.specs.Lists.{has}
 use Rattle.xn_model.specs.Orders.{IsEdgeList, IsOrders, crossing_count, order_at}
 use Rattle.xn_model.specs.Web.{web_of}
-use Rattle.xn_kinds.specs.Row.{EvidenceHolds, RowHolds}
+use Rattle.xn_kinds.specs.Row.{EvidenceHolds}
 use Rattle.xn_kinds.specs.State.{State, IsState}
 use Rattle.xn_kinds.specs.declared.drawings.Drawing.{Drawing}
 use Rattle.xn_kinds.specs.declared.rows.Evidence.{Evidence}
-use Rattle.xn_kinds.specs.declared.rows.Row.{Row}
-use Rattle.xn_effort.specs.Potential.{ones_in}
 use Rattle.xn_fewer.proofs.Rising.{has-all}
 use Rattle.xn_plant.specs.Listed.{planted_lists}
 use Rattle.xn_plant.specs.Planting.{AreSome, HasNoMore, IsPlanted, IsRowOfState}

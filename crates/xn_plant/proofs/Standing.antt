@@ -1,9 +1,8 @@
 -- Which of two numbers stands before the other in what a test leaves of a list, and in front of other numbers.
-use Rattle.std.proofs.Common.{◌≡◌, ℕ, suc, ◌<◌, ◌⊎◌, inl, inr, Bool, true, false, ◌&&◌, ◌||◌, cond, eqb, ltb, List, [], ◌∷◌, ◌++◌, refl, sym, ◌∙◌, ap, arith}
+use Rattle.std.proofs.Common.{◌≡◌, ℕ, suc, ◌<◌, ◌⊎◌, inl, inr, Bool, true, false, ◌&&◌, eqb, ltb, List, [], ◌∷◌, ◌++◌, refl, sym, ◌∙◌, ap, arith}
 use Rattle.std.specs.Prelude.{filter}
-use Rattle.std.proofs.lemmas.Bool.{and_from, and_parts, both_ways, cases_Bool, cases_eq, cases_lt, cond-true, cond-false, eq-eqb, eqb-true, ne_eqb, lt-ltb, le-ltb, ltb-true, or_cases}
+use Rattle.std.proofs.lemmas.Bool.{and_from, and_parts, both_ways, cases_Bool, cases_eq, cond-true, cond-false, eq-eqb, eqb-true, ne_eqb, lt-ltb, ltb-true, or_cases}
 use Rattle.xn_model.specs.Lists.{has, position_in, stands_before}
-use Rattle.xn_fewer.proofs.Has.{has-picked}
 
 -- what stands in a list keeps its position in a longer one
 position-longer : (xs ys : List ℕ) (y : ℕ) → has xs y ≡ true → position_in (xs ++ ys) y ≡ position_in xs y
@@ -27,7 +26,8 @@ kept-before t (x ∷ xs) f h f_kept h_kept less = elim (cases_Bool (t x)) [
       rw (not_f, not_h) (omega (arith, rest))
 ]
   where
-    both : (position_in (filter t xs) f < position_in (filter t xs) h → position_in xs f < position_in xs h) → (x ≡ f) ⊎ (x ≡ f → ⊥) → (x ≡ h) ⊎ (x ≡ h → ⊥) → position_in (x ∷ filter t xs) f < position_in (x ∷ filter t xs) h → position_in (x ∷ xs) f < position_in (x ∷ xs) h
+    both : (position_in (filter t xs) f < position_in (filter t xs) h → position_in xs f < position_in xs h) →
+        (x ≡ f) ⊎ (x ≡ f → ⊥) → (x ≡ h) ⊎ (x ≡ h → ⊥) → position_in (x ∷ filter t xs) f < position_in (x ∷ filter t xs) h → position_in (x ∷ xs) f < position_in (x ∷ xs) h
     both again (inl a) (inl b) l =
         let h_is : position_in (x ∷ filter t xs) h ≡ 0 = cond-true _ _ _ (eq-eqb x h b) in
         absurd (omega (arith, l, h_is))
@@ -51,5 +51,5 @@ pub stood_before : (t : ℕ → Bool) (xs ys : List ℕ) (f h : ℕ) → t f ≡
 stood_before t xs ys f h f_kept h_kept f_in h_in f_there h_there before =
     let last : ltb (position_in (filter t xs ++ ys) f) (position_in (filter t xs ++ ys) h) ≡ true = (and_parts (has (filter t xs ++ ys) f && has (filter t xs ++ ys) h) _ before).1 in
     let less : position_in (filter t xs) f < position_in (filter t xs) h =
-        omega (arith, ltb-true _ _ last, position-longer (filter t xs) ys f f_there, position-longer (filter t xs) ys h h_there) in
+    omega (arith, ltb-true _ _ last, position-longer (filter t xs) ys f f_there, position-longer (filter t xs) ys h h_there) in
     and_from (has xs f && has xs h) _ (and_from (has xs f) (has xs h) f_in h_in) (lt-ltb _ _ (kept-before t xs f h f_kept h_kept less))

@@ -1,11 +1,11 @@
 -- What planting the crossings of a state comes to.
-use Rattle.std.specs.Prelude.{◌≡◌, ℕ, ◌≤◌, true, List, length, All}
+use Rattle.std.specs.Prelude.{◌≡◌, ℕ, ◌≤◌, true, List, All}
 use Rattle.std.specs.List.Sorted.{IsStrictlyIncreasing}
-use Rattle.xn_model.specs.Drawing.{IsListedDrawing, drawn_web, order_of}
-use Rattle.xn_model.specs.Graph.{Graph, edges_of}
+use Rattle.xn_model.specs.Drawing.{IsListedDrawing, order_of}
+use Rattle.xn_model.specs.Graph.{Graph}
 use Rattle.xn_model.specs.Lists.{has}
 use Rattle.xn_model.specs.Map.{IsFlat}
-use Rattle.xn_model.specs.Orders.{IsOrders, crossing_count, order_at}
+use Rattle.xn_model.specs.Orders.{crossing_count, order_at}
 use Rattle.xn_model.specs.Web.{web_of}
 use Rattle.xn_kinds.specs.Row.{EvidenceHolds, RowHolds}
 use Rattle.xn_kinds.specs.State.{State}

@@ -9,8 +9,8 @@ use std::alloc::{AllocError, Global};
 use xn_kinds::Orders;
 use xn_tree::Given;
 
-/// For each of some edges those of them that cross it in a state: the placed ones in their order, then the others, rising. A
-/// list takes time in the number of edges. It fails only for want of memory.
+/// For each of some edges those of them that cross it in a state: the placed ones in their order, then the others,
+/// rising. A list takes time in the number of edges. It fails only for want of memory.
 pub fn planted_orders(alloc: Global, given: &Given, edges: &[u32]) -> Result<Orders, AllocError>
     requires { IsEdgeList (length given.now.graph.ends) edges.now }
     ensures { IfOk result (λ orders. orders ≡ planted_lists (state_of given.now) edges.now) }

@@ -34,8 +34,8 @@ pub trait Planes {
         requires { HasNoLoop web.now.ends }
         ensures { IfOk result (IsTested web.now) };
 
-    /// A drawing with at most as many crossings as the orders, from a flat map of their web, in which edges may touch. It fails
-    /// only for want of memory.
+    /// A drawing with at most as many crossings as the orders, from a flat map of their web, in which edges may
+    /// touch. It fails only for want of memory.
     fn untouch(
         &mut self,
         alloc: Global,
@@ -71,8 +71,9 @@ pub enum Tried {
     Excluded(Row),
 }
 
-/// Plants the crossings of a state: along each edge the placed edges in their order, then the others that cross it. Where their
-/// web has no flat map, the edges that the evidence uses are tried by themselves. It fails only for want of memory.
+/// Plants the crossings of a state: along each edge the placed edges in their order, then the others that cross it.
+/// Where their web has no flat map, the edges that the evidence uses are tried by themselves. It fails only for
+/// want of memory.
 pub fn plant<P: Planes>(
     alloc: Global,
     graph: &Graph,

@@ -6,8 +6,8 @@ ghost use Rattle.xn_plant.specs.Planting.{AreSome};
 use std::alloc::{AllocError, Global};
 use xn_kinds::{Evidence, Paths, Row};
 
-/// The edges on which a segment of the evidence lies, rising: it takes time near linear in the number of segments. It fails only
-/// for want of memory.
+/// The edges on which a segment of the evidence lies, rising: it takes time near linear in the number of segments.
+/// It fails only for want of memory.
 pub fn used_edges(alloc: Global, row: &Row) -> Result<Vec<u32>, AllocError>
     requires { length row.now.orders ≡ length row.now.edges }
     ensures { IfOk result (λ used. AreSome row.now.edges used.items) }

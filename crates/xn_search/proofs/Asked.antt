@@ -1,11 +1,11 @@
 -- Pairs and places of a row that are open in a state, and the leaf that takes a row.
-use Rattle.std.proofs.Common.{◌≡◌, ◌≢◌, IsTrue, ◌↔◌, ℕ, zero, suc, ◌+◌, ◌<◌, ◌≤◌, ◌^◌, inl, inr, Bool, true, false, eqb, List, [], ◌∷◌, ◌++◌, length, map, refl, sym, ◌∙◌, ap, subst, arith, length-append}
-use Rattle.std.specs.Prelude.{All, Option, Some, None, IsSome, filter, slice_index, slice_index_or, max}
+use Rattle.std.proofs.Common.{◌≡◌, IsTrue, ◌↔◌, ℕ, zero, suc, ◌+◌, ◌<◌, ◌≤◌, ◌^◌, inl, inr, Bool, true, false, eqb, List, [], ◌∷◌, ◌++◌, length, map, refl, sym, ◌∙◌, ap, subst, arith, length-append}
+use Rattle.std.specs.Prelude.{All, Option, Some, None, IsSome, filter, slice_index, slice_index_or}
 use Rattle.std.specs.List.Sorted.{IsStrictlyIncreasing}
 use Rattle.std.proofs.lemmas.Bool.{both_ways, cases_Bool, cases_lt, or_cases, eqb-true, eq-eqb, ne_eqb}
-use Rattle.std.proofs.lemmas.List.Elements.{All-append, All-cons, All-head, All-map, All-nil, All-push, All-tail}
+use Rattle.std.proofs.lemmas.List.Elements.{All-append, All-cons, All-head, All-map, All-nil, All-tail}
 use Rattle.std.proofs.Math.Seq.{get_or-append_seam}
-use Rattle.xn_model.specs.Graph.{Graph, Independent, each_two, independent, pairs_of}
+use Rattle.xn_model.specs.Graph.{Graph, Independent, each_two, independent}
 use Rattle.xn_model.specs.Lists.{has}
 use Rattle.xn_model.specs.Orders.{order_at}
 use Rattle.xn_kinds.specs.Bound.{row_at}

@@ -1,5 +1,5 @@
 -- Where a drawing has no crossing, no row of the empty state holds.
-use Rattle.std.proofs.Common.{◌≡◌, ℕ, ◌+◌, ◌-◌, ◌<◌, ◌≤◌, inl, inr, Bool, true, false, List, [], ◌∷◌, length, refl, sym, ◌∙◌, ap, ap₂, arith, cond, eqb, ◌&&◌}
+use Rattle.std.proofs.Common.{◌≡◌, ℕ, ◌-◌, ◌<◌, inl, inr, Bool, true, false, List, [], ◌∷◌, length, refl, sym, ◌∙◌, ap, ap₂, arith, cond, eqb}
 use Rattle.std.specs.Prelude.{Some, None, filter}
 use Rattle.std.proofs.lemmas.Bool.{and_parts, both_ways, cases_Bool, cases_order, eqb-true, or_cases}
 use Rattle.xn_model.specs.Drawing.{HasDrawingWith, IsDrawing}
@@ -7,7 +7,7 @@ use Rattle.xn_model.specs.Graph.{Graph, IsGraph, each_two, edges_of, pairs_of}
 use Rattle.xn_model.specs.Lists.{has, neighbours, one_if, total}
 use Rattle.xn_model.specs.Orders.{crossing_count}
 use Rattle.xn_model.proofs.Ranges.{edge_list}
-use Rattle.xn_kinds.specs.Row.{RowHolds, literal, orders_of, pairs_value, turns_value, value_of, values_in}
+use Rattle.xn_kinds.specs.Row.{literal, orders_of, pairs_value, turns_value, value_of, values_in}
 use Rattle.xn_kinds.specs.State.{empty_state}
 use Rattle.xn_kinds.specs.declared.rows.Row.{Row}
 use Rattle.xn_fewer.proofs.Crossings.{has_pair, is_pair, not_of_itself, two_in}

@@ -1,12 +1,12 @@
 -- One round more of a search, and its ends.
-use Rattle.std.proofs.Common.{◌≡◌, ◌≢◌, ℕ, zero, suc, ◌+◌, ◌-◌, ◌<◌, ◌≤◌, ◌⊎◌, inl, inr, Bool, true, false, List, [], ◌∷◌, ◌++◌, length, get_or, refl, sym, ◌∙◌, ap, subst, arith, length-append}
+use Rattle.std.proofs.Common.{◌≡◌, ℕ, suc, ◌+◌, ◌-◌, ◌<◌, ◌≤◌, inl, inr, List, [], ◌∷◌, ◌++◌, length, refl, sym, ◌∙◌, ap, subst, arith, length-append}
 use Rattle.std.specs.Prelude.{All, max, slice_index_or}
 use Rattle.std.proofs.lemmas.Bool.{cases_eq}
 use Rattle.std.proofs.lemmas.List.{get_or_append_left}
 use Rattle.std.proofs.Math.Seq.{get_or-append_seam}
 use Rattle.xn_model.specs.Drawing.{IsAtLeast, order_of}
 use Rattle.xn_model.specs.Graph.{Graph, IsGraph, pair_count_of}
-use Rattle.xn_model.specs.Limit.{IsBelowLimit, limit_of_round, limit_up_to}
+use Rattle.xn_model.specs.Limit.{limit_up_to}
 use Rattle.xn_model.specs.Lists.{at, total}
 use Rattle.xn_kinds.specs.Row.{RowHolds}
 use Rattle.xn_kinds.specs.State.{State, empty_state}

@@ -1,4 +1,5 @@
-// A decider that plants the crossings of a state: the row that this gives closes the state, or names a pair or a place.
+// A decider that plants the crossings of a state: the row that this gives closes the state, or names a pair or a
+// place.
 ghost use Rattle.std.specs.Prelude.{◌≡◌, ◌↔◌, ◌+◌, ◌<◌, ◌≤◌, ◌^◌, true, false, ℕ, All, IfNone, IfOk, IfSome, IsSome, IsTrue, length, max, slice_index};
 ghost use Rattle.xn_model.specs.Drawing.{IsListedDrawing, order_of};
 ghost use Rattle.xn_model.specs.Graph.{Independent};
@@ -152,7 +153,8 @@ fn open_partner(graph: &Graph, given: &Given, edges: &[u32], i: usize) -> Option
     requires edges { IsEdgeList (length graph.now.ends) edges.now }
     requires within { i < length edges.now }
     ensures some { IfSome result (λ f. IsOpenPair graph.now (state_of given.now) (slice_index edges.now i, f)) }
-    ensures none { IfNone result ((j : ℕ) → i < j → j < length edges.now → Independent graph.now.ends (slice_index edges.now i) (slice_index edges.now j) →
+    ensures none { IfNone result ((j : ℕ) → i < j → j < length edges.now →
+        Independent graph.now.ends (slice_index edges.now i) (slice_index edges.now j) →
         IsSome ((state_of given.now).decided (slice_index edges.now i) (slice_index edges.now j))) }
 {
     for j in i + 1..edges.len() {
@@ -173,7 +175,8 @@ fn is_open(graph: &Graph, given: &Given, e: u32, f: u32) -> bool
     graph.independent(e, f) && given.value(e, f).is_none()
 }
 
-// The first edge of the row, and of those that cross it there, where there are two or more, the first that isn't placed along it.
+// The first edge of the row, and of those that cross it there, where there are two or more, the first that isn't
+// placed along it.
 fn open_place(given: &Given, row: &Row) -> Option<(u32, u32)>
     requires edges { IsEdgeList (length given.now.graph.ends) row.now.edges }
     requires lists_fit { length row.now.orders ≡ length row.now.edges }
@@ -194,7 +197,8 @@ fn open_place(given: &Given, row: &Row) -> Option<(u32, u32)>
 fn unplaced(given: &Given, e: u32, list: &[u32]) -> Option<u32>
     requires { e < length given.now.graph.ends }
     ensures some { IfSome result (λ f. (has list.now f ≡ true) × (has ((state_of given.now).placed e) f ≡ false)) }
-    ensures none { IfNone result (2 ≤ length list.now → (f : ℕ) → has list.now f ≡ true → has ((state_of given.now).placed e) f ≡ true) }
+    ensures none { IfNone result (2 ≤ length list.now → (f : ℕ) → has list.now f ≡ true →
+        has ((state_of given.now).placed e) f ≡ true) }
 {
     if list.len() < 2 {
         return None;

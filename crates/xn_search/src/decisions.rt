@@ -39,9 +39,10 @@ pub enum Decision {
 
 /// What decides how the search goes on in a state.
 pub trait Decider {
-    /// Decides it for a state in which fewer pairs are decided 1 than the claim has crossings. The node keeps its rule in a proof
-    /// of the claim, or the drawing has fewer crossings. It may add rows that hold to those that are known: one, or any number
-    /// while fewer than 800,000 are known. It fails only for want of memory, and then promises nothing of the rows.
+    /// Decides it for a state in which fewer pairs are decided 1 than the claim has crossings. The node keeps its
+    /// rule in a proof of the claim, or the drawing has fewer crossings. It may add rows that hold to those that
+    /// are known: one, or any number while fewer than 800,000 are known. It fails only for want of memory, and then
+    /// promises nothing of the rows.
     fn decide(
         &mut self,
         alloc: Global,
@@ -58,5 +59,6 @@ pub trait Decider {
         ensures more { IfOk result (λ _. GrowsTo rows.old.items rows.new.items) }
         ensures hold { IfOk result (λ _. All (RowHolds claim.now.graph.now) rows.new.items) }
         ensures few { IfOk result (λ _. length rows.new.items ≤ max (length rows.old.items) 800000 + 1) }
-        ensures decided { IfOk result (IsDecision claim.now.graph.now claim.now.crossings rows.new.items (state_of given.now)) };
+        ensures decided { let g = claim.now.graph.now in
+            IfOk result (IsDecision g claim.now.crossings rows.new.items (state_of given.now)) };
 }

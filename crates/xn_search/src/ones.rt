@@ -32,7 +32,8 @@ pub fn count_children(
     requires fits { Fits claim.now.graph.now (state_of given.now) node.now }
     requires searched { IsSearched claim.now.graph.now claim.now.crossings (state_of given.now) node.now }
     requires counted { EndsWith ones.old.items (ones_in claim.now.graph.now (state_of given.now)) }
-    ensures { IfOk result (λ _. (left : List State) → ones.old.items ≡ ones_of claim.now.graph.now (state_of given.now ∷ left) →
+    ensures { IfOk result (λ _. (left : List State) →
+        ones.old.items ≡ ones_of claim.now.graph.now (state_of given.now ∷ left) →
         ones.new.items ≡ ones_of claim.now.graph.now (children (state_of given.now) node.now ++ left)) }
 {
     let last = ones.len() - 1;

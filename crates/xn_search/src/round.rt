@@ -39,8 +39,8 @@ pub struct Round {
     pub end: End,
 }
 
-/// Searches for a proof of the claim, and opens at most so many states. A state costs constant time on average, beside what the
-/// decider takes.
+/// Searches for a proof of the claim, and opens at most so many states. A state costs constant time on average,
+/// beside what the decider takes.
 pub fn run<D: Decider>(
     alloc: Global,
     claim: &Claim,
@@ -110,7 +110,8 @@ fn choose<D: Decider>(
     ensures more { IfOk result (λ _. GrowsTo rows.old.items rows.new.items) }
     ensures hold { IfOk result (λ _. All (RowHolds claim.now.graph.now) rows.new.items) }
     ensures few { IfOk result (λ _. length rows.new.items ≤ max (length rows.old.items) 800000 + 1) }
-    ensures chosen { IfOk result (IsRoundDecision claim.now.graph.now claim.now.crossings rows.new.items (state_of given.now)) }
+    ensures chosen { let g = claim.now.graph.now in
+        IfOk result (IsRoundDecision g claim.now.crossings rows.new.items (state_of given.now)) }
 {
     closing_leaves();
     if is_full(claim, ones) {

@@ -14,8 +14,9 @@ use xn_plant::{Planes, Planted, plant};
 use xn_sound::laws::rows;
 use xn_tree::Given;
 
-/// A drawing of the graph, and a proof that no drawing has fewer crossings: they differ only where the whole budget is spent and
-/// is below the node limit. A unit of the budget is a state that is opened. It fails only for want of memory.
+/// A drawing of the graph, and a proof that no drawing has fewer crossings: they differ only where the whole budget
+/// is spent and is below the node limit. A unit of the budget is a state that is opened. It fails only for want of
+/// memory.
 pub fn solve<P: Planes>(
     alloc: Global,
     graph: &Graph,
@@ -39,7 +40,8 @@ fn first_drawing<P: Planes>(
     planes: &mut P,
 ) -> Result<Drawing, AllocError>
     ensures drawing { IfOk result (λ d. IsListedDrawing graph.now d.orders d.next) }
-    ensures flat { HasDrawingWith graph.now 0 → IfOk result (λ d. crossing_count graph.now (order_of graph.now d.orders) ≡ 0) }
+    ensures flat { HasDrawingWith graph.now 0 →
+        IfOk result (λ d. crossing_count graph.now (order_of graph.now d.orders) ≡ 0) }
 {
     rows();
     trees_go_through_states();

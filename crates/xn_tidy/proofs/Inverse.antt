@@ -1,14 +1,14 @@
 -- The table of the numbers and the list of the rows that have one.
-use Rattle.std.proofs.Common.{◌≡◌, ◌≢◌, ℕ, zero, suc, ◌+◌, ◌<◌, ◌≤◌, inl, inr, true, false, eqb, List, [], ◌∷◌, ◌++◌, length, get_or, set, refl, sym, ◌∙◌, ap, subst, arith}
+use Rattle.std.proofs.Common.{◌≡◌, ◌≢◌, ℕ, zero, suc, ◌<◌, ◌≤◌, inl, inr, true, false, eqb, List, [], ◌∷◌, ◌++◌, length, get_or, set, refl, sym, ◌∙◌, ap, subst, arith}
 use Rattle.std.specs.Prelude.{All, Option, Some, None, replicate}
-use Rattle.std.specs.List.{IsDistinct, list_any}
+use Rattle.std.specs.List.{list_any}
 use Rattle.std.proofs.lemmas.Bool.{both_ways, cases_Bool, cases_eq, cond-true, cond-false, eqb-true, ne_eqb, or_cases}
 use Rattle.std.proofs.lemmas.List.{get_or_append_left, get_or_default, get_or_push, get_or-set_other, get_or-set_same, length-set, length_push}
-use Rattle.std.proofs.lemmas.List.Elements.{All-head, All-push, All-tail, All-weaker}
+use Rattle.std.proofs.lemmas.List.Elements.{All-head, All-push, All-tail}
 use Rattle.std.proofs.lemmas.Map.Keys.{IsDistinct-from_apart}
 use Rattle.std.proofs.lemmas.Map.Steps.{length-le_from_distinct_below}
 use Rattle.xn_model.specs.Lists.{at, has, position_in}
-use Rattle.xn_tidy.specs.Numbering.{AreNumbered, HasNumber, with_row}
+use Rattle.xn_tidy.specs.Numbering.{AreNumbered, HasNumber}
 use Rattle.xn_tidy.proofs.Positions.{at_position, has-get_or, position-last}
 
 any_below : (n : ℕ) (xs : List ℕ) → All (λ x. x < n) xs → (q : ℕ) → list_any (eqb q) xs ≡ true → q < n
@@ -43,7 +43,7 @@ module _ (numbers : List (Option ℕ)) (order : List ℕ) (inverse : AreNumbered
   few_numbers =
       length-le_from_distinct_below order (length numbers)
       (IsDistinct-from_apart eqb order (λ i j d less j_in. ne_eqb _ _ (λ same.
-          let equal : i ≡ j = one_number i j (omega (arith, less, j_in)) j_in (at_any i j d (omega (arith, less, j_in)) j_in same) in omega (arith, less, equal))))
+      let equal : i ≡ j = one_number i j (omega (arith, less, j_in)) j_in (at_any i j d (omega (arith, less, j_in)) j_in same) in omega (arith, less, equal))))
       (any_below (length numbers) order inverse.below)
     where
       at_any : (i j d : ℕ) → i < length order → j < length order → get_or order i d ≡ get_or order j d → at order i ≡ at order j
@@ -83,7 +83,7 @@ module _ (numbers : List (Option ℕ)) (order : List ℕ) (inverse : AreNumbered
       numbered_then j n is = elim (cases_eq j i) [
         | inl here ↦
             let set_here : get_or (set numbers i (Some (length order))) j None ≡ Some (length order) =
-                ap (λ x. get_or (set numbers i (Some (length order))) x None) here ∙ get_or-set_same numbers i (Some (length order)) None below in
+            ap (λ x. get_or (set numbers i (Some (length order))) x None) here ∙ get_or-set_same numbers i (Some (length order)) None below in
             let both : Some (length order) ≡ Some n = sym set_here ∙ is in
             let last : length order ≡ n = cc in
             (omega (arith, last, length_push order i), get_or_push order i 0 n last ∙ sym here)

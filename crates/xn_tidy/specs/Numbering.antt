@@ -66,7 +66,7 @@ pub record AreSorted (old new : List ℕ) (parts sorted : List (ℕ × ℕ)) : T
   pub counted : CountUp (length old) (map (λ p. p.0) sorted) (length new)
 
 -- the node with its numbers, which count on from those before
-pub record IsNext (old new : List ℕ) (node done : Node) : Type 0 where
+pub record CountsOn (old new : List ℕ) (node done : Node) : Type 0 where
   pub longer : GoesOnFrom old new
   pub same : (rows : List Row) → IsRenumbered rows new node done
   pub counted : CountUp (length old) (uses_in done) (length new)

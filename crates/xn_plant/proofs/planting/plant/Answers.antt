@@ -1,4 +1,4 @@
-use Rattle.std.proofs.Common.{◌≡◌, ◌∙◌, ap, length, subst, sym}
+use Rattle.std.proofs.Common.{◌∙◌, ap, length, subst, sym}
 use Rattle.xn_model.specs.Graph.{edges_of}
 use Rattle.xn_model.specs.Orders.{IsEdgeList}
 use Rattle.xn_model.proofs.Ranges.{edge_list}

@@ -1,4 +1,4 @@
-use Rattle.std.proofs.Common.{◌≡◌, ◌∙◌, List, ℕ, ap, length, subst, sym}
+use Rattle.std.proofs.Common.{◌∙◌, List, ℕ, ap, subst, sym}
 use Rattle.xn_model.specs.Graph.{Graph, HasNoLoop}
 use Rattle.xn_model.specs.Orders.{IsOrders, order_at}
 use Rattle.xn_model.specs.Web.{web_of}

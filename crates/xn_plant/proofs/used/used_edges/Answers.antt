@@ -1,4 +1,3 @@
-use Rattle.std.proofs.Common.{◌≡◌}
 use Rattle.std.proofs.lemmas.List.Filters.{dedup_is}
 use Rattle.xn_plant.proofs.Shown.{sorted_some}
 use Rattle.xn_plant.proofs.used.used_edges.Goals as goal

@@ -1,4 +1,4 @@
-use Rattle.std.proofs.Common.{◌≡◌, ◌∙◌, ℕ, ap, length, sym}
+use Rattle.std.proofs.Common.{◌∙◌, ℕ, ap, length, sym}
 use Rattle.std.proofs.lemmas.List.FromFn.{length-range_with_len}
 use Rattle.xn_search.proofs.branching.counted.Goals as goal
 

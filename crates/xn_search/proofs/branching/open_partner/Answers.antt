@@ -1,4 +1,4 @@
-use Rattle.std.proofs.Common.{◌<◌, ◌≤◌, inl, inr, arith, subst, sym}
+use Rattle.std.proofs.Common.{inl, inr, arith, subst, sym}
 use Rattle.std.specs.Prelude.{slice_index}
 use Rattle.std.proofs.lemmas.Bool.{cases_eq}
 use Rattle.xn_tree.specs.Given.{state_of}

@@ -1,4 +1,4 @@
-use Rattle.std.proofs.Common.{◌<◌, ◌≤◌, inl, inr, arith, length}
+use Rattle.std.proofs.Common.{inl, inr, arith}
 use Rattle.std.proofs.lemmas.Bool.{cases_eq}
 use Rattle.xn_tree.specs.Given.{state_of}
 use Rattle.xn_search.proofs.Asked.{no_place_open, place_asked, placed_here}

@@ -1,4 +1,4 @@
-use Rattle.std.proofs.Common.{◌≡◌, ◌-◌, ◌∷◌, ◌++◌, ◌∙◌, List, ℕ, arith, length}
+use Rattle.std.proofs.Common.{◌≡◌, ◌-◌, ◌∷◌, ◌++◌, ◌∙◌, List, arith, length}
 use Rattle.xn_kinds.specs.State.{State}
 use Rattle.xn_kinds.specs.Tree.{children}
 use Rattle.xn_tree.specs.Given.{state_of}

@@ -1,12 +1,11 @@
-use Rattle.std.proofs.Common.{◌≡◌, ◌+◌, ◌≤◌, ◌∙◌, List, ℕ, arith, length, subst, sym}
-use Rattle.std.specs.Prelude.{max}
+use Rattle.std.proofs.Common.{◌∙◌, List, ℕ, arith, subst, sym}
 use Rattle.xn_tree.specs.Given.{state_of}
 use Rattle.xn_tree.specs.Walk.{pending_of}
 use Rattle.xn_effort.specs.Leads.{Searches}
 use Rattle.xn_effort.specs.Potential.{ones_in}
 use Rattle.xn_search.specs.Choice.{IsRoundDecision}
 use Rattle.xn_search.specs.Ones.{EndsWith}
-use Rattle.xn_search.proofs.Opened.{extends_more, few_rows, found_ends, goes_first, goes_on, keeps_fits, not_where, proved_ends, spent_ends, state_first}
+use Rattle.xn_search.proofs.Opened.{extends_more, found_ends, goes_first, goes_on, keeps_fits, not_where, proved_ends, spent_ends, state_first}
 use Rattle.xn_search.proofs.Pushed.{first_counted}
 use Rattle.xn_search.proofs.round.run.Goals as goal
 

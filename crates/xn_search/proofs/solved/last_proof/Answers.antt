@@ -1,4 +1,4 @@
-use Rattle.std.proofs.Common.{◌≡◌, ◌-◌, ◌<◌, ◌≤◌, ◌^◌, List, ℕ, [], length, arith, subst, sym, ap, ◌∙◌}
+use Rattle.std.proofs.Common.{◌≡◌, ◌-◌, ◌<◌, List, ℕ, [], length, arith, subst, sym, ap, ◌∙◌}
 use Rattle.std.specs.Prelude.{slice_index_or}
 use Rattle.std.proofs.lemmas.List.{get_or_default}
 use Rattle.xn_kinds.specs.declared.rows.Row.{Row}
@@ -25,7 +25,7 @@ returns c =
     let i = c.len-count.result - 1 in
     let small : i < length rounds = omega (arith, c.len-count.ensures, c.if-count-eq0.false) in
     let is : c.at.result.now ≡ slice_index_or rounds (length rounds - 1) [] =
-        c.at.ensures ∙ get_or_default rounds i c.at.result.now [] small ∙ ap (λ (n : ℕ). slice_index_or rounds (n - 1) []) c.len-count.ensures in
+    c.at.ensures ∙ get_or_default rounds i c.at.result.now [] small ∙ ap (λ (n : ℕ). slice_index_or rounds (n - 1) []) c.len-count.ensures in
     ok_each c.tidy.result (IsTidied c.as_slice.result.now c.at.result.now) (IsLastProof c.args.rows.now rounds)
     (λ p tidied. record {
       none = λ none. absurd (omega (arith, none, small));

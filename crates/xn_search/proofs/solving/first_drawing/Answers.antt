@@ -1,4 +1,4 @@
-use Rattle.std.proofs.Common.{◌≡◌, ◌≤◌, ap, arith, subst, sym}
+use Rattle.std.proofs.Common.{ap, arith, subst, sym}
 use Rattle.xn_kinds.specs.State.{IsState, State}
 use Rattle.xn_tree.specs.Given.{state_of}
 use Rattle.xn_effort.specs.Potential.{ones_in}

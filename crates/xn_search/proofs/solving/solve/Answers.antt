@@ -1,4 +1,4 @@
-use Rattle.std.proofs.Common.{◌≡◌, ◌≤◌, arith}
+use Rattle.std.proofs.Common.{◌≡◌, arith}
 use Rattle.xn_search.proofs.solving.solve.Goals as goal
 
 pub returns-clause-flat : goal.returns-clause-flat

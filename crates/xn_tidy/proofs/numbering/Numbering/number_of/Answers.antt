@@ -1,5 +1,5 @@
-use Rattle.std.proofs.Common.{◌≡◌, ◌<◌, ◌≤◌, ◌^◌, ℕ, List, [], ◌∷◌, ◌++◌, ◌∙◌, ap, arith, length, refl, subst, sym, get_or}
-use Rattle.std.specs.Prelude.{Option, Some, None, slice_set}
+use Rattle.std.proofs.Common.{◌≡◌, ◌<◌, ℕ, List, [], ◌∷◌, ◌++◌, ◌∙◌, ap, arith, length, subst, sym, get_or}
+use Rattle.std.specs.Prelude.{Some, None, slice_set}
 use Rattle.std.proofs.lemmas.List.{get_or_read}
 use Rattle.xn_tidy.specs.Numbering.{AreNumbered, HasNumber, Named}
 use Rattle.xn_tidy.proofs.Inverse.{few_numbers, known_number, next_number, still_inverse}

@@ -1,4 +1,4 @@
-use Rattle.std.proofs.Common.{◌≤◌, ap, arith, length}
+use Rattle.std.proofs.Common.{ap, arith, length}
 use Rattle.xn_tidy.specs.Numbering.{Named}
 use Rattle.xn_tidy.proofs.Inverse.{few_numbers}
 use Rattle.xn_tidy.proofs.numbering.Numbering.order.Goals as goal
