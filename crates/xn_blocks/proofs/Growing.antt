@@ -7,7 +7,7 @@ use Rattle.std.proofs.lemmas.Map.Steps.{le-length_from_below}
 use Rattle.xn_model.specs.Graph.{Graph}
 use Rattle.xn_model.specs.Lists.{at}
 use Rattle.xn_model.specs.Permutation.{iterate}
-use Rattle.xn_ring.proofs.Orbits.{iterate-step}
+use Rattle.xn_model.proofs.Decide.{iterate-step}
 use Rattle.xn_blocks.specs.Search.{Above, IsLinked}
 use Rattle.xn_blocks.specs.Growth.{AllDone, AreFound, IsAt, IsDone, IsFound, KeepsFound, Lists, far_end, with_node}
 

@@ -11,8 +11,8 @@ use Rattle.std.specs.List.{IsDistinct, range_with_len}
 use Rattle.std.specs.Prelude.{nat_eq}
 use Rattle.xn_orders.specs.Entries.{list_of}
 use Rattle.xn_orders.proofs.AllEdges.{order_of-at, order_of-same}
-use Rattle.xn_orders.proofs.Entered.{place_of}
 use Rattle.xn_orders.proofs.Numbered.{has-get_or}
+use Rattle.xn_model.proofs.Has.{place_of}
 use Rattle.xn_draw.specs.Flaws.{HasCrossings, HasMap, IsFirstTouch, IsTouch}
 use Rattle.xn_draw.specs.Touches.{NoTouch, RunsOn, TouchesAt, TouchesFirst, first_of}
 use Rattle.xn_draw.proofs.Totals.{segment_count}

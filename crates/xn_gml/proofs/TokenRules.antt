@@ -2,6 +2,7 @@
 use Rattle.std.proofs.Common.{◌≡◌, ℕ, suc, ◌+◌, ◌<◌, ◌==◌, Bool, true, false, ◌||◌, cond, List, [], ◌∷◌, ◌++◌, length, take, drop, Option, Some, None, nat_lt, position, refl, ap, ◌∙◌, length-append, arith}
 use Rattle.std.specs.List.{position_or_len, before_first}
 use Rattle.std.proofs.lemmas.Bool.{lt-ltb, le-ltb}
+use Rattle.xn_model.proofs.Tests.{neither}
 use Rattle.xn_gml.specs.declared.token.Kind.TheVariants.{Open, Close, Quoted, Malformed}
 use Rattle.xn_gml.specs.declared.token.Token.{Token}
 use Rattle.xn_gml.specs.Rules.{Lacks, IsStopped}
@@ -15,7 +16,7 @@ place test [] [] lacks stopped = refl
 place test [] (y ∷ ys) lacks stopped = rw stopped refl
 place test (x ∷ xs) ys lacks stopped = rw lacks.0 (omega (arith, place test xs ys lacks.1 stopped))
 
-place_none : (test : ℕ → Bool) (xs : List ℕ) → Lacks test xs → position_or_len test xs ≡ length xs
+pub place_none : (test : ℕ → Bool) (xs : List ℕ) → Lacks test xs → position_or_len test xs ≡ length xs
 place_none test [] lacks = refl
 place_none test (x ∷ xs) lacks = rw lacks.0 (omega (arith, place_none test xs lacks.1))
 
@@ -30,7 +31,7 @@ found test xs ys y lacks stop =
     ap (λ (m : ℕ). cond (nat_lt m (length (xs ++ y ∷ ys))) (Some m) None) (place test xs (y ∷ ys) lacks stop)
     ∙ some_place (length xs) (length (xs ++ y ∷ ys)) (omega (arith, length-append xs (y ∷ ys)))
 
-missing : (test : ℕ → Bool) (xs : List ℕ) → Lacks test xs → position test xs ≡ None
+pub missing : (test : ℕ → Bool) (xs : List ℕ) → Lacks test xs → position test xs ≡ None
 missing test xs lacks = ap (λ (m : ℕ). cond (nat_lt m (length xs)) (Some m) None) (place_none test xs lacks) ∙ no_place (length xs)
 
 dropped : (xs ys : List ℕ) → drop (length xs) (xs ++ ys) ≡ ys
@@ -48,10 +49,6 @@ dropped_all (x ∷ xs) = dropped_all xs
 taken : (xs ys : List ℕ) → take (length xs) (xs ++ ys) ≡ xs
 taken [] ys = refl
 taken (x ∷ xs) ys = ap (λ (zs : List ℕ). x ∷ zs) (taken xs ys)
-
-or_false : (a b : Bool) → (a || b) ≡ false → (a ≡ false) × (b ≡ false)
-or_false true b e = cc
-or_false false b e = (refl, e)
 
 pub separator_is_passed : (at b : ℕ) (bytes : List ℕ) → is_separator b ≡ true → tokens_from 0 at (b ∷ bytes) ≡ tokens_from 0 (at + 1) bytes
 unfolding tokens_from begins
@@ -88,7 +85,7 @@ string_is_token at text bytes lacks =
     ∙ ap (λ (ts : List Token). token at Quoted ∷ ts) (passed (suc (length text)) (at + 1) (text ++ 34 ∷ bytes)
     ∙ ap (tokens_from 0 (at + 1 + suc (length text))) (dropped_one text bytes 34) ∙ ap (λ (a : ℕ). tokens_from 0 a bytes) sum)
 
-no_bytes : (at : ℕ) → tokens_from 0 at [] ≡ []
+pub no_bytes : (at : ℕ) → tokens_from 0 at [] ≡ []
 unfolding tokens_from
 no_bytes at = refl
 
@@ -104,9 +101,9 @@ run_first : (at b : ℕ) (after : List ℕ) → ends_run b ≡ false → (b == 3
     begins at b after ≡ (Some (token at (kind_of_run (b ∷ before_first ends_run after))), position_or_len ends_run after)
 unfolding begins
 run_first at b after goes_on hash =
-    let quote = or_false (is_separator b || b == 91 || b == 93) (b == 34) goes_on in
-    let close = or_false (is_separator b || b == 91) (b == 93) quote.0 in
-    let opens = or_false (is_separator b) (b == 91) close.0 in
+    let quote = neither (is_separator b || b == 91 || b == 93) (b == 34) goes_on in
+    let close = neither (is_separator b || b == 91) (b == 93) quote.0 in
+    let opens = neither (is_separator b) (b == 91) close.0 in
     rw (opens.0, hash, opens.1, close.1, quote.1) refl
 
 pub run_is_token : (at b : ℕ) (run bytes : List ℕ) → (b == 35) ≡ false → Lacks ends_run (b ∷ run) → IsStopped ends_run bytes →

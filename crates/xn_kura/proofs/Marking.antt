@@ -5,7 +5,7 @@ use Rattle.std.proofs.lemmas.Bool.{cases_eq, both_ways, false_from_ne_true, or_c
 use Rattle.std.proofs.lemmas.List.{append-nil, get_or-set_same, get_or-set_other}
 use Rattle.std.proofs.lemmas.List.Folds.{list_any-append}
 use Rattle.xn_model.specs.Lists.{has}
-use Rattle.xn_kura.proofs.Distinct.{has-left}
+use Rattle.xn_model.proofs.Has.{has-left}
 use Rattle.xn_kura.specs.Flaws.{IsFirstRepeat}
 use Rattle.xn_kura.specs.Marks.{Clears, MarksExactly, MarksMore, MarksWithin, StopsAt, is_marked}
 

@@ -8,9 +8,10 @@ use Rattle.xn_model.specs.Evidence.{LeadsTo, far_end, inner_nodes}
 use Rattle.xn_model.specs.Graph.{Graph, ends_at, touches}
 use Rattle.xn_model.specs.Lists.{at, has}
 use Rattle.xn_model.specs.Map.{reverse_of, tail_of}
+use Rattle.xn_model.proofs.Counts.{count-not}
 use Rattle.xn_kura.proofs.Distinct.{positions_apart}
 use Rattle.xn_kura.proofs.Path.{out, out_facts}
-use Rattle.xn_kura.proofs.Tally.{count-not, distinct-le}
+use Rattle.xn_kura.proofs.Tally.{distinct-le}
 use Rattle.xn_kura.proofs.Walking.{inner_step, step}
 use Rattle.xn_kura.specs.Straight.{IsStraight, dart_from}
 use Rattle.xn_model.specs.Loose.{dart_count}

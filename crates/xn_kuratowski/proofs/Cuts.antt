@@ -6,12 +6,11 @@ use Rattle.xn_model.specs.Graph.{EndsIn, HasNoLoop, ends_at}
 use Rattle.xn_model.specs.Lists.{has}
 use Rattle.xn_model.specs.Map.{Joined, is_lone, tail_of}
 use Rattle.xn_model.proofs.ComponentWalks.{joined_sym, joined_trans}
-use Rattle.xn_model.proofs.Darts.{cases_dart, tail-even, tail-odd}
+use Rattle.xn_model.proofs.Darts.{EndsIn-both, cases_dart, tail-even, tail-odd}
 use Rattle.xn_genus.proofs.Compress.{EndsIn_from}
 use Rattle.xn_genus.proofs.Kept.{EndsIn_at}
 use Rattle.xn_genus.proofs.Lone.{dart_if_not_lone}
 use Rattle.xn_genus.proofs.Nodes.{lone_from}
-use Rattle.xn_surgery.proofs.OverlayComponents.{EndsIn-both}
 use Rattle.xn_fewer.proofs.Flats.{some_flat}
 use Rattle.xn_fewer.proofs.Lists.{at_back, at_front, lone_ends}
 use Rattle.xn_fewer.proofs.Walks.{filter_from, filter_to, joined_ends, walk_leaves}

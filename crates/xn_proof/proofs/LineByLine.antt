@@ -8,6 +8,7 @@ use Rattle.std.proofs.Math.Nat.{min-eq_left}
 use Rattle.std.specs.List.{after_first, before_first, flat_map, position_or_len, slice_split}
 use Rattle.xn_kinds.specs.declared.flaws.Flaw.{Flaw}
 use Rattle.xn_text.specs.Pieces.{is_line_end, lines_of, numbered_lines, unended_line, words_of}
+use Rattle.xn_text.proofs.Split.{ended_line}
 use Rattle.xn_proof.specs.declared.item.Item.{Item}
 use Rattle.xn_proof.specs.declared.places.Place.{Place}
 use Rattle.xn_proof.specs.Forms.{Reached, is_end, lines_at, rule_at, up_to_end, words_at}
@@ -36,10 +37,6 @@ abbrev pub Says : {X : Type 0} → Place → (Left → Result (X × Left) Flaw) 
 Says p read next say = (front : List Item) (s : Left) → from front s p ≡ (read s >>= λ x. from (front ++ say x.0) x.1 (next x.0))
 
 -- ---- one line
-
-ended_line : (number : ℕ) (piece : List ℕ) (others : List (List ℕ)) → 0 < length others → numbered_lines number (piece ∷ others) ≡ (number, piece, true) ∷ numbered_lines (number + 1) others
-ended_line number piece [] some = absurd (omega arith)
-ended_line number piece (second ∷ others) some = refl
 
 pub ended : (i : ℕ) (text : List ℕ) → ltb (position_or_len is_line_end text) (length text) ≡ true → lines_of (i, text) ≡ (i, before_first is_line_end text, true) ∷ lines_of (i + 1, after_first is_line_end text)
 ended i text is =

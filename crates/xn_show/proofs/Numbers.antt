@@ -1,9 +1,9 @@
 -- Spellings of numbers as runs and in strings.
-use Rattle.std.proofs.Common.{◌≡◌, ℕ, ℤ, pos, negsuc, suc, ◌^◌, ◌<◌, ◌==◌, Bool, true, false, cond, ltb, List, [], ◌∷◌, ◌++◌, length, Option, Some, None, position, decimal, FitsSigned, refl, ap, ◌∙◌, subst, arith}
+use Rattle.std.proofs.Common.{◌≡◌, ℕ, ℤ, pos, negsuc, suc, ◌^◌, ◌<◌, ◌==◌, Bool, true, false, cond, ltb, List, [], ◌∷◌, ◌++◌, length, Option, Some, None, decimal, FitsSigned, refl, ap, ◌∙◌, subst, arith}
 use Rattle.std.specs.Char.{is_ascii_digit}
 use Rattle.std.specs.Fmt.{signed_decimal}
 use Rattle.std.specs.Int.{IsInRange, w64}
-use Rattle.std.specs.List.{list_all, position_or_len, AllByRecursion}
+use Rattle.std.specs.List.{list_all, AllByRecursion}
 use Rattle.std.specs.Str.Parse.{AllDigits, digits_value}
 use Rattle.std.proofs.lemmas.Bool.{lt-ltb, le-ltb, ne_eqb}
 use Rattle.std.proofs.lemmas.Bool.Decides.{nat_tests}
@@ -14,6 +14,7 @@ use Rattle.xn_gml.specs.declared.token.Kind.TheVariants.{Number}
 use Rattle.xn_gml.specs.Rules.{Lacks, IsStopped}
 use Rattle.xn_gml.specs.Runs.{is_letter, is_word, is_sign, is_dot, is_e, unsigned, is_digits, is_decimal, is_scaled, is_number, signed, integer_of, kind_of_run}
 use Rattle.xn_gml.specs.Tokens.{is_quote, ends_run}
+use Rattle.xn_gml.proofs.TokenRules.{missing}
 use Rattle.xn_show.specs.Text.{spaced}
 use Rattle.xn_show.proofs.TokenKinds.{Reads, run_first}
 
@@ -71,15 +72,8 @@ all_digits : (ds : List ℕ) → Digits ds → list_all is_ascii_digit ds ≡ tr
 all_digits [] digits = refl
 all_digits (d ∷ ds) digits = rw (digit_is d digits.0, all_digits ds digits.1) refl
 
-place_none : (test : ℕ → Bool) (xs : List ℕ) → Lacks test xs → position_or_len test xs ≡ length xs
-place_none test [] lacks = refl
-place_none test (x ∷ xs) lacks = rw lacks.0 (omega (arith, place_none test xs lacks.1))
-
 no_place : (n : ℕ) → cond (ltb n n) (Some n) None ≡ None
 no_place n = rw (le-ltb n n (omega arith)) refl
-
-missing : (test : ℕ → Bool) (xs : List ℕ) → Lacks test xs → position test xs ≡ None
-missing test xs lacks = ap (λ (m : ℕ). cond (ltb m (length xs)) (Some m) None) (place_none test xs lacks) ∙ no_place (length xs)
 
 module _ (d : ℕ) (ds : List ℕ) (digits : Digits (d ∷ ds)) where
   not_empty : (length (d ∷ ds) == 0) ≡ false

@@ -25,6 +25,7 @@ use Rattle.xn_kinds.specs.declared.drawings.Drawing.{Drawing}
 use Rattle.xn_orders.proofs.Limits.{web_limited}
 use Rattle.xn_orders.proofs.LoopFree.{no_loop}
 use Rattle.xn_orders.proofs.Rising.{each_append}
+use Rattle.xn_gml.proofs.TokenRules.{no_bytes}
 use Rattle.xn_show.specs.Laws.{found_web, numbered}
 use Rattle.xn_show.specs.Text.{node_line, segment_edges, segment_line, segments_text, show_text}
 use Rattle.xn_graph.specs.Stars.{darts_of}
@@ -98,10 +99,6 @@ inner_edges f ks = refl
 no_mark : (rest : List ℕ) → tokens_of (codes "graph [\n  directed 0\n" ++ rest) ≡ tokens_from 0 0 (codes "graph [\n  directed 0\n" ++ rest)
 unfolding tokens_of
 no_mark rest = refl
-
-at_end : (stop : ℕ) → tokens_from 0 stop [] ≡ []
-unfolding tokens_from
-at_end stop = refl
 
 list_is : (text : List ℕ) (f : ℕ → ℕ) (ks : List Kind) → tokens_of text ≡ located f (all_kinds ks) → ((end : ℕ) → grammar_from end false 0 (located f (all_kinds ks)) ≡ Ok tt) →
     lists_of key.Graph (located f (all_kinds ks)) ≡ graph_pair f ks ∷ [] → list_of text ≡ Ok (inner f ks)
@@ -196,7 +193,7 @@ module _ (g : Graph) (ids : List ℤ) (d : Drawing) (limited : IsLimitedGraph g)
       let read = reads_text 0 in
       let f = read.places in
       let tokens : tokens_of text ≡ located f (all_kinds lines) =
-      no_mark _ ∙ read.tokens ∙ ap (λ (ts : List Token). located f (all_kinds lines) ++ ts) (at_end read.stop) ∙ append-nil (located f (all_kinds lines)) in
+      no_mark _ ∙ read.tokens ∙ ap (λ (ts : List Token). located f (all_kinds lines) ++ ts) (no_bytes read.stop) ∙ append-nil (located f (all_kinds lines)) in
       let after = without_first 4 f in
       let list : list_of text ≡ Ok (inner f lines) =
       list_is text f lines tokens (λ end. head_keeps end f lines ∙ keeps end after) (head_is_graph f lines (inside after)) in
