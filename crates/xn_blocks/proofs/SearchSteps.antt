@@ -13,7 +13,7 @@ use Rattle.xn_genus.proofs.Counts.{stays_alone}
 use Rattle.xn_graph.proofs.DartsOf.{darts_before-le, darts_before-next, darts_of-at, darts_of-place}
 use Rattle.xn_blocks.specs.Search.{Above, AreComparable, IsLinked, IsSearchForest}
 use Rattle.xn_blocks.proofs.Climbs.{both_above, first_step}
-use Rattle.xn_blocks.specs.Growth.{AllDone, AreFound, Exploring, GoesOn, GoesOnAt, HasNone, IsAt, IsDone, IsFound, Lists, still_left, far_end, sum_below, with_dart, with_node}
+use Rattle.xn_blocks.specs.Growth.{AllDone, AreFound, Exploring, GoesOn, GoesOnAt, HasNone, IsAt, IsDone, IsFound, Lists, far_end, sum_below, with_dart, with_node}
 use Rattle.xn_blocks.proofs.Growing.{at_child, found_now, keeps_found, parent_now}
 
 -- ---- what is left
@@ -206,10 +206,6 @@ explored web s now t root v (Some w) before on = (
   },
 )
 
-pub less_still : (web : Graph) (now t : Lists) (v : ℕ) (o : Option ℕ) → GoesOn web now t v o → still_left web t o < still_left web now (Some v)
-less_still web now t v None on = omega arith
-less_still web now t v (Some w) on = omega (arith, on.less)
-
 -- the nodes below the root, and the root
 pub all_and : (web : Graph) (s : Lists) (root : ℕ) → ((v : ℕ) → v < root → IsFound web s v) → IsFound web s root → (v : ℕ) → v < root + 1 → IsFound web s v
 all_and web s root all here v low = elim (cases_eq v root) [
@@ -220,21 +216,6 @@ all_and web s root all here v low = elim (cases_eq v root) [
 -- before the first search
 pub none_found : (web : Graph) (s : Lists) → HasNone web s → (v : ℕ) → IsFound web s v → ⊥
 none_found web s none v found = omega (arith, found.1, none.none v found.0)
-
-pub found_at_first : (web : Graph) (s : Lists) → HasNone web s → AreFound web s
-found_at_first web s none = record {
-  parents = none.parents;
-  numbers = none.numbers;
-  nexts = none.nexts;
-  placed = λ i low. absurd (omega (arith, low, ap length none.order));
-  listed = λ v found. absurd (none_found web s none v found);
-  parent_found = λ v found. absurd (none_found web s none v found);
-  linked = λ v found up. absurd (none_found web s none v found);
-  earlier = λ v found up. absurd (none_found web s none v found);
-  tried = λ v v_in. omega (arith, none.untried v v_in);
-  untried = λ v v_in far. none.untried v v_in;
-  compared = λ v i found low. absurd (none_found web s none v found);
-}
 
 -- where all nodes are found and done, it is a forest of a search
 pub forest_from : (web : Graph) (s : Lists) → EndsIn web.nodes web.ends → AreFound web s → AllDone web s → ((v : ℕ) → v < web.nodes → IsFound web s v) → IsSearchForest web (at s.parent) (at s.number)

@@ -105,9 +105,6 @@ repeat-from_marks old new xs x none stops =
 
 -- ---- marks taken away
 
-pub Clears-none : (old : List Bool) → Clears old [] old
-Clears-none old rest within = within
-
 pub Clears-trans : (a b c : List Bool) (xs ys : List ℕ) → Clears a xs b → Clears b ys c → Clears a (xs ++ ys) c
 Clears-trans a b c xs ys first second rest within =
     let P : List ℕ → Type 0 = λ zs. MarksWithin zs a in

@@ -157,10 +157,6 @@ pub fold_counts : {X : Type 0} (j : ℕ) (xs : List X) → fold_on (λ n x. n + 
 fold_counts j [] = omega arith
 fold_counts j (x ∷ xs) = omega (arith, fold_counts (j + 1) xs)
 
-pub fold_same : {X : Type 0} (t : ℕ) (xs : List X) → fold_on (λ n x. n) t xs ≡ t
-fold_same t [] = refl
-fold_same t (x ∷ xs) = fold_same t xs
-
 pub many_length : {X : Type 0} (item : ℕ → Left → Result (X × Left) Flaw) (j k : ℕ) (s : Left) (xs : List X) (t : Left) → many_at item j k s ≡ Ok (xs, t) → length xs ≡ k
 unfolding many_at
 many_length {X = X} item j zero s xs t is = sym (ap (λ (p : List X × Left). length p.0) (ok_is ([], s) (xs, t) is))
