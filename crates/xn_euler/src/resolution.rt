@@ -1,4 +1,4 @@
-ghost use Rattle.std.specs.Prelude.{◌≡◌, ◌≢◌, ℕ, ◌*◌, ◌^◌, ◌<◌, OnErr, OnOk, length};
+ghost use Rattle.std.specs.Prelude.{◌≡◌, ◌≢◌, ℕ, ◌^◌, ◌<◌, OnErr, OnOk, length};
 ghost use Rattle.xn_model.specs.Map.{tail_of};
 ghost use Rattle.xn_map.specs.Changes.{StaysFlat};
 ghost use Rattle.xn_map.specs.Listed.{IsListedMap};

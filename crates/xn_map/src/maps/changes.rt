@@ -1,5 +1,5 @@
 // Calls that change a map.
-ghost use Rattle.std.specs.Prelude.{◌≡◌, ◌≢◌, ◌/◌, ◌+◌, ◌*◌, ◌^◌, ◌<◌, ◌≤◌, ◌⊎◌, IfOk, OnErr, OnOk, length};
+ghost use Rattle.std.specs.Prelude.{◌≡◌, ◌≢◌, ◌/◌, ◌+◌, ◌*◌, ◌^◌, ◌<◌, ◌⊎◌, IfOk, OnErr, OnOk, length};
 ghost use Rattle.xn_model.specs.Lists.{at};
 ghost use Rattle.xn_model.specs.Map.{Joined};
 ghost use Rattle.xn_model.specs.Permutation.{Permutes};
