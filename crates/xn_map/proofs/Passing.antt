@@ -15,7 +15,7 @@ use Rattle.xn_genus.proofs.Compress.{EndsIn_tails, half_reverse, tail_in}
 use Rattle.xn_surgery.specs.Smoothing.{IsSmoothing, dart_smoothed, node_before}
 use Rattle.xn_surgery.proofs.Smooth.{map_smoothed}
 use Rattle.xn_map.specs.Anchored.{IsDartOf, OutlastsAt}
-use Rattle.xn_map.specs.Changes.{IsFilled, TakesOut, TakesPlace, new_name}
+use Rattle.xn_map.specs.Changes.{IsFilled, TakesDartOut, TakesPlace, new_name}
 use Rattle.xn_map.specs.Cutting.{MovesDart}
 use Rattle.xn_map.specs.Listed.{IsListedMap, ListedMap, map_of}
 use Rattle.xn_map.specs.Passing.{AreTwoDarts, HasTwoDarts, LeadsOn, LosesNode, MovesNode, RunsOn, Smooths, dart_run}
@@ -37,7 +37,7 @@ cases_run p q d = elim (cases_eq d p) [
 -- p is taken out, and has the place of the reverse of q
 module _ (p q : ℕ) (old half new : List ℕ) (p_in : p < length old) (q_in : q < length old) (r_in : reverse_of q < length old) (apart : p / 2 ≢ q / 2)
     (permutes : Permutes (length old) (at old)) (to_q : at old p ≡ q) (to_p : at old q ≡ p)
-    (out : TakesOut p old half) (place : TakesPlace (reverse_of q) p half new) where
+    (out : TakesDartOut p old half) (place : TakesPlace (reverse_of q) p half new) where
   abbrev r : ℕ
   r = reverse_of q
 

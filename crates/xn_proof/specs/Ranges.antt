@@ -149,7 +149,7 @@ large_of (Some n) = n
 large_of None = 0
 
 -- row numbers, each with its multiplier
-abbrev pub pairs_of : List (Option ℕ) → List (ℕ × ℕ)
-pairs_of [] = []
-pairs_of (v ∷ []) = []
-pairs_of (v ∷ w ∷ vs) = (small_of v, large_of w) ∷ pairs_of vs
+abbrev pub parts_of : List (Option ℕ) → List (ℕ × ℕ)
+parts_of [] = []
+parts_of (v ∷ []) = []
+parts_of (v ∷ w ∷ vs) = (small_of v, large_of w) ∷ parts_of vs

@@ -18,7 +18,7 @@ use Rattle.xn_gml.specs.declared.token.Kind.{Kind}
 use Rattle.xn_gml.specs.declared.token.Kind.TheVariants.{Open, Close, Word}
 use Rattle.xn_gml.specs.declared.token.Token.{Token}
 use Rattle.xn_gml.specs.Grammar.{grammar_from}
-use Rattle.xn_gml.specs.Lists.{is_list_of, lists_of, pairs_from}
+use Rattle.xn_gml.specs.Lists.{is_list_of, lists_of, listed_pairs_from}
 use Rattle.xn_gml.specs.Meaning.{edges_from, graph_in, graph_within, ids_from, list_of, no_edges}
 use Rattle.xn_gml.specs.Tokens.{ends_run, token, tokens_from, tokens_of}
 use Rattle.xn_kinds.specs.declared.drawings.Drawing.{Drawing}
@@ -84,16 +84,16 @@ inner f ks = located (without_first 2 f) (Word key.Other ∷ integer 0 ∷ ks)
 abbrev graph_pair : (ℕ → ℕ) → List Kind → Pair
 graph_pair f ks = record { key = key.Graph; at = f 0; value = token (f 1) Open; list = inner f ks }
 
-head_is_graph : (f : ℕ → ℕ) (ks : List Kind) → pairs_from 1 (located (without_first 4 f) ks) ≡ [] → lists_of key.Graph (located f (all_kinds ks)) ≡ graph_pair f ks ∷ []
-unfolding pairs_from
+head_is_graph : (f : ℕ → ℕ) (ks : List Kind) → listed_pairs_from 1 (located (without_first 4 f) ks) ≡ [] → lists_of key.Graph (located f (all_kinds ks)) ≡ graph_pair f ks ∷ []
+unfolding listed_pairs_from
 head_is_graph f ks none = ap (λ (ps : List Pair). graph_pair f ks ∷ filter (is_list_of key.Graph) ps) none
 
 inner_nodes : (f : ℕ → ℕ) (ks : List Kind) → lists_of key.Node (inner f ks) ≡ lists_of key.Node (located (without_first 4 f) ks)
-unfolding pairs_from
+unfolding listed_pairs_from
 inner_nodes f ks = refl
 
 inner_edges : (f : ℕ → ℕ) (ks : List Kind) → lists_of key.Edge (inner f ks) ≡ lists_of key.Edge (located (without_first 4 f) ks)
-unfolding pairs_from
+unfolding listed_pairs_from
 inner_edges f ks = refl
 
 no_mark : (rest : List ℕ) → tokens_of (codes "graph [\n  directed 0\n" ++ rest) ≡ tokens_from 0 0 (codes "graph [\n  directed 0\n" ++ rest)
@@ -167,10 +167,10 @@ module _ (g : Graph) (ids : List ℤ) (d : Drawing) (limited : IsLimitedGraph g)
       let segments = passes_all (grammar_from end false 1) segments_kinds (λ s. segment_keeps end s (ends_at web.ends s) (at of s)) (range_with_len 0 (length web.ends)) nodes.0 (Close ∷ []) in
       nodes.1 ∙ segments.1 ∙ close_keeps end segments.0
 
-  inside : (f : ℕ → ℕ) → pairs_from 1 (located f lines) ≡ []
+  inside : (f : ℕ → ℕ) → listed_pairs_from 1 (located f lines) ≡ []
   inside f =
-      let nodes = passes_all (pairs_from 1) nodes_kinds (λ v. node_inside (ltb v (length ids)) v) (range_with_len 0 web.nodes) f last_kinds in
-      let segments = passes_all (pairs_from 1) segments_kinds (λ s. segment_inside s (ends_at web.ends s) (at of s)) (range_with_len 0 (length web.ends)) nodes.0 (Close ∷ []) in
+      let nodes = passes_all (listed_pairs_from 1) nodes_kinds (λ v. node_inside (ltb v (length ids)) v) (range_with_len 0 web.nodes) f last_kinds in
+      let segments = passes_all (listed_pairs_from 1) segments_kinds (λ s. segment_inside s (ends_at web.ends s) (at of s)) (range_with_len 0 (length web.ends)) nodes.0 (Close ∷ []) in
       nodes.1 ∙ segments.1 ∙ close_inside segments.0
 
   node_blocks : (f : ℕ → ℕ) → EachPair (λ v p. HasInteger key.Id p v) (range_with_len 0 web.nodes) (lists_of key.Node (located f lines))
