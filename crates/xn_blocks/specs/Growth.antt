@@ -34,7 +34,8 @@ pub record AreFound (web : Graph) (s : Lists) : Type 0 where
   pub earlier : (v : ℕ) → IsFound web s v → at s.parent v ≢ v → at s.number (at s.parent v) < at s.number v
   pub tried : (v : ℕ) → v < web.nodes → at s.next v ≤ length (darts_of web.ends v)
   pub untried : (v : ℕ) → v < web.nodes → web.nodes ≤ at s.number v → at s.next v ≡ 0
-  pub compared : (v i : ℕ) → IsFound web s v → i < at s.next v → IsFound web s (far_end_at web v i) × AreComparable (at s.parent) v (far_end_at web v i)
+  pub compared : (v i : ℕ) → IsFound web s v → i < at s.next v →
+      IsFound web s (far_end_at web v i) × AreComparable (at s.parent) v (far_end_at web v i)
 
 -- all darts of v were tried
 abbrev pub IsDone : Graph → Lists → ℕ → Type 0

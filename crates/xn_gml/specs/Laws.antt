@@ -20,7 +20,8 @@ PairsAreOfGrammar = (end : ℕ) (pairs : Pairs) → ArePairs 64 pairs → gramma
 -- the pairs of a list are those of its tree, whatever comes after them: the end, or the list's `]`
 abbrev pub PairsAreOfTree : Type 0
 PairsAreOfTree =
-    (room : ℕ) (pairs : Pairs) (rest : List Token) → ArePairs room pairs → EndsList rest → listed_pairs (tokens_in pairs ++ rest) ≡ pairs_in pairs rest
+    (room : ℕ) (pairs : Pairs) (rest : List Token) → ArePairs room pairs → EndsList rest →
+    listed_pairs (tokens_in pairs ++ rest) ≡ pairs_in pairs rest
 
 -- a refusal by the grammar is that of the first token that can't stand in its place, or the text ends too early
 abbrev pub FlawIsFirst : Type 0
