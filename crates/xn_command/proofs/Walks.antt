@@ -7,9 +7,9 @@ use Rattle.clap.specs.Faults.{settle_fault}
 use Rattle.clap.specs.Kinds.{Kinds, or_else}
 use Rattle.clap.specs.Walk.{Row, Text, Walk, has_row, idle, option, settled_rows, used, walked}
 use Rattle.clap.specs.declared.error.kind.ErrorKind.TheVariants.{ArgumentConflict}
-use Rattle.xn_command.specs.Items.{Item, budget, budgets_of, is_dashed, is_useful, item_of, items_of, operand, operands_of, stray}
+use Rattle.xn_command.specs.Items.{Item, budget, budgets_of, is_dashed, is_useful, item_of, items_of, operand, operands_of, stray, unvalued}
 use Rattle.xn_command.proofs.App.{budget_rule, rules}
-use Rattle.xn_command.proofs.Budgets.{AreTexts, dashes_fail, plain_value, run_ends, run_fails, stays_wrong, stray_turn, stray_value, trailing_value, turn_fails, turn_leads, value_value_fails}
+use Rattle.xn_command.proofs.Budgets.{AreTexts, dashes_after, dashes_fail, dashes_turn, plain_value, run_ends, run_fails, stays_wrong, stray_turn, stray_value, trailing_value, turn_fails, turn_leads, value_value_fails, wants_value_fails}
 use Rattle.xn_command.proofs.Rows.{Holds, has_is, placed, with_budget}
 use Rattle.xn_command.proofs.Steps.{Fails, fails_first, fails_then, Stands, after, fresh, last, operand_step, place, run, state, turn, unused}
 use Rattle.xn_command.proofs.Words.{HasBudget, IsOther, IsPlain, IsStray, Kind, dashes, has, held, kind, plain, strays, wants}
@@ -80,6 +80,19 @@ items_other : (word : Text) (words : List Text) → IsOther word → items_of (w
 unfolding items_of
 items_other word [] k = rw (k.dashes, k.wants) refl
 items_other word (next ∷ words) k = rw (k.dashes, k.wants) refl
+
+items_behind : (words : List Text) → items_of (codes "--" ∷ words) ≡ map operand words
+unfolding items_of
+items_behind [] = refl
+items_behind (word ∷ words) = refl
+
+items_unvalued : items_of (codes "--budget" ∷ []) ≡ unvalued ∷ []
+unfolding items_of
+items_unvalued = refl
+
+items_budget : (value : Text) (words : List Text) → items_of (codes "--budget" ∷ value ∷ words) ≡ budget value ∷ items_of words
+unfolding items_of
+items_budget value words = refl
 
 operands_behind : (words : List Text) → operands_of (map operand words) ≡ words
 unfolding operands_of

@@ -181,10 +181,10 @@ leaf_any rows vs =
     chained (λ i. first_of i vs) (λ i v. first_of i v.1 >>= tested i v) (first_any vs) (λ v.
     chained (λ i. first_of i v.1) (λ i w. tested i v w) (first_any v.1) (λ w.
     choice (is_half w.0 (length w.1)) (λ i. divided i v w) (λ i. Err (syntax i))
-        (chained (λ i. at_most i (2 ^ 32 - 1) w.0) (λ i count. factor i v.0 >>= parts i w) (at_most_any (2 ^ 32 - 1) w.0) (λ count.
-        chained (λ i. factor i v.0) (λ i divisor. parts i w divisor) (factor_any v.0) (λ divisor.
-        made (λ i. parts_at rows i w.1) (λ ps. (divisor, ps)) (parts_any rows w.1))))
-        (fails syntax)))
+    (chained (λ i. at_most i (2 ^ 32 - 1) w.0) (λ i count. factor i v.0 >>= parts i w) (at_most_any (2 ^ 32 - 1) w.0) (λ count.
+    chained (λ i. factor i v.0) (λ i divisor. parts i w divisor) (factor_any v.0) (λ divisor.
+    made (λ i. parts_at rows i w.1) (λ ps. (divisor, ps)) (parts_any rows w.1))))
+    (fails syntax)))
 
 -- ---- lines
 
@@ -205,22 +205,22 @@ start_any : (words : List (List ℕ)) → AnyNumber (λ i. start_of i words)
 unfolding start_of
 start_any words =
     choice (has_key (codes "five") words) (λ i. five_of i words) (λ i. cond (has_key (codes "three") words) (three_of i words) (extension_of i words))
-        (form_any (codes "five") (nodes_form 5) (λ branch. start.Five branch) (nodes_any 5) words)
-        (choice (has_key (codes "three") words) (λ i. three_of i words) (λ i. extension_of i words)
-            (form_any (codes "three") (nodes_form 6) (λ branch. start.ThreeThree branch) (nodes_any 6) words)
-            (form_any (codes "extension") (list_form 1000000) (λ list. start.Extension list) (list_any 1000000) words))
+    (form_any (codes "five") (nodes_form 5) (λ branch. start.Five branch) (nodes_any 5) words)
+    (choice (has_key (codes "three") words) (λ i. three_of i words) (λ i. extension_of i words)
+    (form_any (codes "three") (nodes_form 6) (λ branch. start.ThreeThree branch) (nodes_any 6) words)
+    (form_any (codes "extension") (list_form 1000000) (λ list. start.Extension list) (list_any 1000000) words))
 
 node_any : (m rows : ℕ) (words : List (List ℕ)) → AnyNumber (λ i. node_of m rows i words)
 unfolding node_of
 node_any m rows words =
     let last = λ (i : ℕ). cond (has_key (codes "leaf") words) (leaf_of rows i words) (end_of i words) in
     choice (has_key (codes "pair") words) (λ i. pair_of m i words) (λ i. cond (has_key (codes "place") words) (place_of m i words) (last i))
-        (form_any (codes "pair") (edges_form m) (λ p. Some (Pair p.0 p.1)) (edges_any m) words)
-        (choice (has_key (codes "place") words) (λ i. place_of m i words) last
-            (form_any (codes "place") (edges_form m) (λ p. Some (PlaceNode p.0 p.1)) (edges_any m) words)
-            (choice (has_key (codes "leaf") words) (λ i. leaf_of rows i words) (λ i. end_of i words)
-                (form_any (codes "leaf") (leaf_form rows) (λ l. Some (Leaf l.0 l.1)) (leaf_any rows) words)
-                (form_any (codes "end") no_form (λ u. None) no_any words)))
+    (form_any (codes "pair") (edges_form m) (λ p. Some (Pair p.0 p.1)) (edges_any m) words)
+    (choice (has_key (codes "place") words) (λ i. place_of m i words) last
+    (form_any (codes "place") (edges_form m) (λ p. Some (PlaceNode p.0 p.1)) (edges_any m) words)
+    (choice (has_key (codes "leaf") words) (λ i. leaf_of rows i words) (λ i. end_of i words)
+    (form_any (codes "leaf") (leaf_form rows) (λ l. Some (Leaf l.0 l.1)) (leaf_any rows) words)
+    (form_any (codes "end") no_form (λ u. None) no_any words)))
 
 words_any : (p : Place) (words : List (List ℕ)) → AnyNumber (λ i. words_at p i words)
 words_any place.Header words = form_any (codes "crossing-answer") (just_form 1) (λ u. (item.Header 1, place.Graph)) (just_any 1) words

@@ -134,8 +134,8 @@ leaf_form rows i vs = do
   v ← first_of i vs
   w ← first_of i v.1
   if is_half w.0 (length w.1)
-    then (at_most i (2 ^ 32 - 1) w.0 >>= λ count. factor i v.0 >>= λ divisor. parts_at rows i w.1 >>= λ parts. Ok (divisor, parts))
-    else Err (syntax i)
+      then (at_most i (2 ^ 32 - 1) w.0 >>= λ count. factor i v.0 >>= λ divisor. parts_at rows i w.1 >>= λ parts. Ok (divisor, parts))
+      else Err (syntax i)
 
 -- ---- what is kept of values, where each is in its range
 
