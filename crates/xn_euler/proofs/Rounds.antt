@@ -111,24 +111,24 @@ cut_is m listed v how (a', b', c', d', four, parts) a b c a_in at_v least b_is c
 
 -- x, y, z and w follow each other round v
 pub record IsRound (m : ListedMap) (v x y z w : ℕ) : Type 0 where
-  x_in : x < 2 * length m.web.ends
-  y_in : y < 2 * length m.web.ends
-  z_in : z < 2 * length m.web.ends
-  w_in : w < 2 * length m.web.ends
-  x_at : tail_of m.web.ends x ≡ v
-  y_at : tail_of m.web.ends y ≡ v
-  z_at : tail_of m.web.ends z ≡ v
-  w_at : tail_of m.web.ends w ≡ v
-  to_y : at m.next x ≡ y
-  to_z : at m.next y ≡ z
-  to_w : at m.next z ≡ w
-  to_x : at m.next w ≡ x
-  x_not_y : x ≢ y
-  x_not_z : x ≢ z
-  x_not_w : x ≢ w
-  y_not_z : y ≢ z
-  y_not_w : y ≢ w
-  z_not_w : z ≢ w
+  pub x_in : x < 2 * length m.web.ends
+  pub y_in : y < 2 * length m.web.ends
+  pub z_in : z < 2 * length m.web.ends
+  pub w_in : w < 2 * length m.web.ends
+  pub x_at : tail_of m.web.ends x ≡ v
+  pub y_at : tail_of m.web.ends y ≡ v
+  pub z_at : tail_of m.web.ends z ≡ v
+  pub w_at : tail_of m.web.ends w ≡ v
+  pub to_y : at m.next x ≡ y
+  pub to_z : at m.next y ≡ z
+  pub to_w : at m.next z ≡ w
+  pub to_x : at m.next w ≡ x
+  pub x_not_y : x ≢ y
+  pub x_not_z : x ≢ z
+  pub x_not_w : x ≢ w
+  pub y_not_z : y ≢ z
+  pub y_not_w : y ≢ w
+  pub z_not_w : z ≢ w
 
 round_from_four : (m : ListedMap) → IsListedMap m → (v a b c d : ℕ) → AreFourDarts m v a b c d → IsRound m v a b c d
 round_from_four m listed v a b c d four =
