@@ -5,7 +5,7 @@ use Rattle.xn_model.specs.Evidence.{IsPathSystem, IsThreeThree, five_pairs, thre
 use Rattle.xn_model.specs.Graph.{EndsIn, Graph, ends_at}
 use Rattle.xn_genus.proofs.Kept.{EndsIn_at}
 use Rattle.xn_fewer.specs.Flat.{SameEnds}
-use Rattle.xn_kura.proofs.Pairs.{all_below_at}
+use Rattle.xn_kura.proofs.Pairs.{all_below, all_below_at}
 use Rattle.xn_kuratowski.specs.Minor.{IsMinor}
 use Rattle.xn_kuratowski.proofs.Choices.{AreDifferent, are_same, are_same-from, are_same-to, different_cons, find, find_is, same_sym, same_trans}
 use Rattle.xn_kuratowski.proofs.Legs.{ArePairs, IsStar, Paired, legs_subdivide}
@@ -48,10 +48,6 @@ each_pair-to : (t : ℕ × ℕ → Bool) (ps : List (ℕ × ℕ)) → each_pair 
 each_pair-to t [] h q q_in = absurd (omega (arith, q_in))
 each_pair-to t (p ∷ ps) h zero q_in = let two : (t p ≡ true) × (each_pair t ps ≡ true) = and_parts _ _ h in two.0
 each_pair-to t (p ∷ ps) h (suc q) q_in = let two : (t p ≡ true) × (each_pair t ps ≡ true) = and_parts _ _ h in each_pair-to t ps two.1 q (omega (arith, q_in))
-
-abbrev pub all_below : ℕ → (ℕ → Bool) → Bool
-all_below zero t = true
-all_below (suc n) t = t n && all_below n t
 
 -- ---- three against three, and five
 

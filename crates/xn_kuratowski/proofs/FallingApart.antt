@@ -8,9 +8,9 @@ use Rattle.xn_model.specs.Map.{Joined}
 use Rattle.xn_model.proofs.ComponentWalks.{joined_sym, joined_trans}
 use Rattle.xn_genus.proofs.Tests.{some_below, some_below-from, some_below-to}
 use Rattle.xn_fewer.proofs.Walks.{filter_to, joined_same, joined_within}
-use Rattle.xn_kura.proofs.Pairs.{all_below_at}
+use Rattle.xn_kura.proofs.Pairs.{all_below, all_below_at}
 use Rattle.xn_kuratowski.specs.Minor.{Adjoin, IsMinor, inside, is_inside}
-use Rattle.xn_kuratowski.proofs.Attached.{all_below, any_same, any_same-to, five_are_pairs, gate, gate_is}
+use Rattle.xn_kuratowski.proofs.Attached.{any_same, any_same-to, five_are_pairs, gate, gate_is}
 use Rattle.xn_kuratowski.proofs.Legs.{Paired}
 use Rattle.xn_kuratowski.proofs.Minors.{is_within, joined_inside}
 use Rattle.xn_kuratowski.proofs.Rim.{Adjacent}
