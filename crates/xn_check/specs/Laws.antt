@@ -73,11 +73,13 @@ abbrev pub FrontsAreTaken : Type 0
 FrontsAreTaken = (text : List ℕ) (seen : Seen) (flaw : Flaw) → SpellsFront text seen → ¬ (FrontVerdict text (Err flaw))
 
 abbrev pub DrawingsAreTaken : Type 0
-DrawingsAreTaken = (g : Graph) (loops : ℕ) (text : List ℕ) (d : Drawing) (flaw : Flaw) → SpellsDrawing g loops text d → ¬ (DrawVerdict g loops text (Err flaw))
+DrawingsAreTaken =
+    (g : Graph) (loops : ℕ) (text : List ℕ) (d : Drawing) (flaw : Flaw) → SpellsDrawing g loops text d → ¬ (DrawVerdict g loops text (Err flaw))
 
 abbrev pub ProofsAreTaken : Type 0
 ProofsAreTaken =
-    (g : Graph) (loops : ℕ) (text : List ℕ) (lower upper : ℕ) (flaw : Flaw) → SpellsProof g loops text lower upper → ¬ (Verdict g loops text (Err flaw))
+    (g : Graph) (loops : ℕ) (text : List ℕ) (lower upper : ℕ) (flaw : Flaw) → SpellsProof g loops text lower upper →
+    ¬ (Verdict g loops text (Err flaw))
 
 -- the text has a drawing with upper crossings, and rows and a tree that prove lower
 pub record HasProofOf (g : Graph) (lower upper : ℕ) : Type 0 where
@@ -95,4 +97,5 @@ AcceptedHasProof = (g : Graph) (loops : ℕ) (text : List ℕ) (lower upper : �
 -- a text that is accepted bounds the crossing number of its graph from both sides
 abbrev pub AcceptedTextBounds : Type 0
 AcceptedTextBounds =
-    (g : Graph) (loops : ℕ) (text : List ℕ) (lower upper : ℕ) → IsGraph g → Verdict g loops text (Ok (lower, upper)) → IsAtLeast g lower × IsAtMost g upper
+    (g : Graph) (loops : ℕ) (text : List ℕ) (lower upper : ℕ) → IsGraph g → Verdict g loops text (Ok (lower, upper)) →
+    IsAtLeast g lower × IsAtMost g upper
