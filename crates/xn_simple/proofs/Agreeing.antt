@@ -1,10 +1,8 @@
 -- Rotations that agree on the darts.
-use Rattle.std.proofs.Common.{◌≡◌, ℕ, suc, ◌+◌, ◌*◌, ◌<◌, List, length, map, refl, sym, ◌∙◌, ap, arith}
-use Rattle.std.specs.List.{flat_map}
-use Rattle.xn_model.specs.Drawing.{CrossesAt}
+use Rattle.std.proofs.Common.{◌≡◌, ℕ, ◌+◌, ◌*◌, ◌<◌, List, length, ◌∙◌, ap, arith}
 use Rattle.xn_model.specs.Graph.{Graph, IsGraph}
-use Rattle.xn_model.specs.Lists.{has, position_in}
-use Rattle.xn_model.specs.Map.{IsFlat, IsMap, MeetsEuler, face_step, reverse_of, tail_of}
+use Rattle.xn_model.specs.Lists.{position_in}
+use Rattle.xn_model.specs.Map.{IsFlat, face_step, reverse_of, tail_of}
 use Rattle.xn_model.specs.Web.{first_segment, web_of}
 use Rattle.xn_model.proofs.Darts.{reverse_below}
 use Rattle.xn_genus.proofs.Counts.{Permutes-face, cycle_count-congr}

@@ -1,10 +1,10 @@
 -- What untouch answers is a drawing.
-use Rattle.std.proofs.Common.{◌≡◌, ℕ, suc, ◌+◌, ◌*◌, ◌^◌, ◌≤◌, inl, inr, List, [], ◌∷◌, length, refl, sym, ◌∙◌, ap, subst, arith, length-append}
+use Rattle.std.proofs.Common.{◌≡◌, ℕ, suc, ◌+◌, ◌*◌, ◌≤◌, inl, inr, List, [], ◌∷◌, length, sym, ◌∙◌, ap, subst, arith, length-append}
 use Rattle.std.proofs.lemmas.Bool.{cases_Bool}
 use Rattle.xn_model.specs.Drawing.{IsDrawing, IsListedDrawing, drawn_web, order_of}
 use Rattle.xn_model.specs.Graph.{Graph, edges_of}
 use Rattle.xn_model.specs.Lists.{at, total}
-use Rattle.xn_model.specs.Orders.{crossing_count, crossings_of}
+use Rattle.xn_model.specs.Orders.{crossing_count}
 use Rattle.xn_model.specs.Web.{web_of}
 use Rattle.xn_graph.specs.Limits.{IsLimitedGraph}
 use Rattle.xn_map.specs.Listed.{IsListedMap, ListedMap}

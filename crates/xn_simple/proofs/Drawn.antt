@@ -1,12 +1,12 @@
 -- The darts at the ends and the crossings of the edges turn as the map does, and that is a drawing.
-use Rattle.std.proofs.Common.{◌≡◌, ◌≢◌, ℕ, zero, suc, ◌+◌, ◌*◌, ◌<◌, ◌≤◌, inl, inr, Bool, true, List, [], ◌∷◌, ◌++◌, length, map, refl, sym, ◌∙◌, ap, subst, arith, length-append}
+use Rattle.std.proofs.Common.{◌≡◌, ℕ, zero, suc, ◌+◌, ◌*◌, ◌<◌, ◌≤◌, inl, inr, Bool, true, List, [], ◌∷◌, length, sym, ◌∙◌, ap, subst, arith, length-append}
 use Rattle.std.specs.List.{IsDistinct, flat_map}
 use Rattle.std.specs.Prelude.{nat_eq}
 use Rattle.xn_model.specs.Graph.{Graph, IsGraph, ends_at}
 use Rattle.xn_model.specs.Lists.{at, has}
-use Rattle.xn_model.specs.Map.{IsFlat, IsMap, reverse_of, tail_of}
+use Rattle.xn_model.specs.Map.{IsFlat, reverse_of}
 use Rattle.xn_model.specs.Orders.{IsOrders, crossings_of}
-use Rattle.xn_model.specs.Web.{crossing_node, first_segment, segments_of, segments_through, web_of}
+use Rattle.xn_model.specs.Web.{first_segment, segments_of, web_of}
 use Rattle.xn_model.proofs.Darts.{cases_dart, reverse-even}
 use Rattle.xn_genus.specs.Part.{dart_along, ends_along}
 use Rattle.xn_genus.proofs.Part.{passes_over}
@@ -17,13 +17,13 @@ use Rattle.xn_orders.proofs.Limits.{length-segments_of}
 use Rattle.xn_track.specs.Cutting.{TurnsAsRuns, run_dart}
 use Rattle.xn_track.specs.Tidying.{IsDrawingOfEdges, is_met, order_along}
 use Rattle.xn_track.specs.Track.{IsTrack, MeetSimply, passed}
-use Rattle.xn_track.proofs.Blocks.{at_place, found_at, place, size_of}
+use Rattle.xn_track.proofs.Blocks.{at_place, found_at}
 use Rattle.xn_track.proofs.Passes.{along_even, along_odd, begin, is_part, over_step, part_size, turn}
 use Rattle.xn_track.proofs.Runs.{runs_from}
 use Rattle.xn_track.proofs.Tidy.{cut, drawing, tidied}
 use Rattle.xn_loose.specs.Webs.{walk_in_web}
-use Rattle.xn_loose.proofs.Webs.{W-length, all_at, seam_tails, seg_at}
-use Rattle.xn_simple.specs.Crossed.{crossed_from, crossed_order, runs_straight, starts_after, starts_along}
+use Rattle.xn_loose.proofs.Webs.{W-length, all_at}
+use Rattle.xn_simple.specs.Crossed.{crossed_from, starts_along}
 use Rattle.xn_simple.specs.Turning.{AreStarts, TurnsAlong}
 use Rattle.xn_simple.specs.Untouched.{IsUntouched, TouchingEdgesComeApart, starts_in}
 use Rattle.xn_simple.proofs.Agreeing.{drawing-agrees}

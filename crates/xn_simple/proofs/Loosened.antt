@@ -1,5 +1,5 @@
 -- The steps by which walks meet less, over a map that stays as it is.
-use Rattle.std.proofs.Common.{◌≡◌, ◌≢◌, ℕ, suc, ◌+◌, ◌-◌, ◌*◌, ◌<◌, ◌≤◌, inl, inr, Bool, true, false, List, ◌++◌, length, take, drop, refl, sym, ◌∙◌, ap, subst, arith, length-drop}
+use Rattle.std.proofs.Common.{◌≡◌, ℕ, suc, ◌+◌, ◌-◌, ◌*◌, ◌<◌, inl, inr, Bool, true, false, List, length, take, drop, refl, sym, ◌∙◌, ap, subst, arith, length-drop}
 use Rattle.xn_model.specs.Graph.{Graph, IsGraph}
 use Rattle.xn_model.specs.Lists.{at, has}
 use Rattle.xn_model.specs.Map.{reverse_of, tail_of}

@@ -1,9 +1,9 @@
 -- The edges of a planarised graph that touch are drawn apart: the walks in it meet simply once they have come apart.
-use Rattle.std.proofs.Common.{◌≡◌, ◌≢◌, ℕ, suc, ◌+◌, ◌*◌, ◌<◌, ◌≤◌, ◌⊎◌, inl, inr, Bool, true, false, eqb, List, length, map, refl, sym, ◌∙◌, ap, subst, arith}
-use Rattle.std.specs.List.{IsDistinct, flat_map}
+use Rattle.std.proofs.Common.{◌≡◌, ◌≢◌, ℕ, suc, ◌+◌, ◌*◌, ◌<◌, ◌≤◌, ◌⊎◌, inl, inr, Bool, true, false, List, length, refl, sym, ◌∙◌, ap, subst, arith}
+use Rattle.std.specs.List.{IsDistinct}
 use Rattle.std.specs.Prelude.{nat_eq}
 use Rattle.std.proofs.lemmas.Bool.{and_from, and_parts, both_ways, cases_Bool, cases_eq, cond-true, cond-false, eq-eqb, eqb-true, le-leb, lt-ltb, ltb-true}
-use Rattle.xn_model.specs.Graph.{Graph, IsGraph, ends_at}
+use Rattle.xn_model.specs.Graph.{Graph, IsGraph}
 use Rattle.xn_model.specs.Lists.{at, has, position_in}
 use Rattle.xn_model.specs.Map.{IsFlat, reverse_of, tail_of}
 use Rattle.xn_model.specs.Orders.{IsOrders, crossings_of}

@@ -1,7 +1,7 @@
 -- Walks over a map that stays as it is, while its further nodes come apart.
 use Rattle.std.specs.Prelude.{◌≡◌, ◌≢◌, ℕ, suc, ◌+◌, ◌-◌, ◌*◌, ◌<◌, ◌≤◌, ◌⊎◌, ◌==◌, ◌&&◌, Bool, true, false, not, List, ◌++◌, length, take, drop}
 use Rattle.xn_model.specs.Graph.{Graph, IsGraph}
-use Rattle.xn_model.specs.Lists.{at, has}
+use Rattle.xn_model.specs.Lists.{has}
 use Rattle.xn_model.specs.Map.{tail_of}
 use Rattle.xn_track.specs.Steps.{crossing_over, end_from, node_after, turned_walk, with_walk}
 use Rattle.xn_track.specs.Track.{IsTrack}

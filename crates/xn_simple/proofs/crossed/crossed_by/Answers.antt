@@ -1,4 +1,4 @@
-use Rattle.std.proofs.Common.{◌≡◌, sym, ◌∙◌, arith}
+use Rattle.std.proofs.Common.{sym, ◌∙◌, arith}
 use Rattle.xn_model.specs.Lists.{at}
 use Rattle.xn_simple.proofs.Steps.{crossed-no, crossed-yes}
 use Rattle.xn_simple.proofs.crossed.crossed_by.Goals.{then-runs_straight+in_ok-push, else-runs_straight}

@@ -1,4 +1,4 @@
-use Rattle.std.proofs.Common.{◌≡◌, ◌++◌, ◌+◌, [], ◌∷◌, drop, length, ◌∙◌, ap, arith}
+use Rattle.std.proofs.Common.{◌++◌, ◌+◌, [], ◌∷◌, drop, length, ◌∙◌, ap, arith}
 use Rattle.xn_model.specs.Lists.{at}
 use Rattle.xn_simple.specs.Crossed.{crossed_lists}
 use Rattle.xn_simple.proofs.Steps.{crossed-more, lists_left}

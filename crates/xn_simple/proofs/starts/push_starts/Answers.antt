@@ -1,4 +1,4 @@
-use Rattle.std.proofs.Common.{◌≡◌, ◌++◌, ◌+◌, drop, length, sym, ◌∙◌, ap, arith}
+use Rattle.std.proofs.Common.{◌++◌, ◌+◌, drop, length, ◌∙◌, ap, arith}
 use Rattle.xn_model.specs.Lists.{at}
 use Rattle.xn_simple.specs.Crossed.{starts_of}
 use Rattle.xn_simple.proofs.Steps.{lists_left, starts-more}

@@ -1,4 +1,4 @@
-use Rattle.std.proofs.Common.{◌≡◌, ◌+◌, List, ℕ, length, sym, subst, arith}
+use Rattle.std.proofs.Common.{◌+◌, List, ℕ, length, sym, subst, arith}
 use Rattle.xn_model.specs.Lists.{at}
 use Rattle.xn_simple.proofs.Steps.{TurnsFirst, turns-more}
 use Rattle.xn_simple.proofs.turning.turns_by.Goals as goal

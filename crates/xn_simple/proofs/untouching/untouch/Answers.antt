@@ -1,4 +1,4 @@
-use Rattle.std.proofs.Common.{◌≡◌, ◌+◌, ◌*◌, ◌^◌, ◌≤◌, ◌++◌, ℕ, List, length, sym, subst, ap, ◌∙◌, arith}
+use Rattle.std.proofs.Common.{◌≤◌, ◌++◌, ℕ, List, length, sym, subst, ap, ◌∙◌, arith}
 use Rattle.xn_model.specs.Drawing.{IsListedDrawing, order_of}
 use Rattle.xn_model.specs.Lists.{at}
 use Rattle.xn_model.specs.Orders.{crossing_count}
