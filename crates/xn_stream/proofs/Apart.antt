@@ -56,12 +56,12 @@ module _ {S A : Type 0} (rules : Rules S A) (clear : (s : S) (x : Item) (kind : 
       none_ended begun o (whole_lines others ++ rest) lacks_ten (same ∙ append_assoc o (10 ∷ whole_lines others) rest)
   not_both (l ∷ lines) [] a at by u s t begun rest flaw lack lacks lead leads lacks_ten none same fails =
       let here : FailsNext rules a u rest flaw =
-          subst (λ (b : Reached). FailsNext rules b u rest flaw) leads.0 (subst (λ (v : S). FailsNext rules by v rest flaw) leads.1 fails) in
+      subst (λ (b : Reached). FailsNext rules b u rest flaw) leads.0 (subst (λ (v : S). FailsNext rules by v rest flaw) leads.1 fails) in
       kept_fails a u l (whole_lines lines ++ begun) rest (λ b v. LeadTo rules b v lines at s) flaw (All-head (Lacks 10) l lines lack) lead
       (sym (append_assoc l (10 ∷ whole_lines lines) begun) ∙ same) here
   not_both (l ∷ lines) (o ∷ others) a at by u s t begun rest flaw lack lacks lead leads lacks_ten none same fails =
       let first = one_first l o (whole_lines lines ++ begun) (whole_lines others ++ rest) (All-head (Lacks 10) l lines lack) (All-head (Lacks 10) o others lacks)
-          (sym (append_assoc l (10 ∷ whole_lines lines) begun) ∙ same ∙ append_assoc o (10 ∷ whole_lines others) rest) in
+      (sym (append_assoc l (10 ∷ whole_lines lines) begun) ∙ same ∙ append_assoc o (10 ∷ whole_lines others) rest) in
       let second = subst (λ (x : List ℕ). OnKept rules u (next_at a (x, true)) (λ b v. LeadTo rules b v others by t)) (sym first.0) leads in
       both_go u (next_at a (l, true)) (λ b v. LeadTo rules b v lines at s) (λ b v. LeadTo rules b v others by t) lead second
       (λ b v p q. not_both lines others b at by v s t begun rest flaw (All-tail (Lacks 10) l lines lack) (All-tail (Lacks 10) o others lacks) p q lacks_ten none first.1 fails)

@@ -56,7 +56,7 @@ module _ {S A : Type 0} (rules : Rules S A) where
       KeepsRules rules s (next_at at (line, true)) later t → LeadTo rules a u (lines ++ line ∷ []) later t
   lead_more [] line a at later u s t lead kept =
       let here : KeepsRules rules u (next_at a (line, true)) later t = subst (λ (b : Reached). KeepsRules rules u (next_at b (line, true)) later t) lead.0
-          (subst (λ (v : S). KeepsRules rules v (next_at at (line, true)) later t) lead.1 kept) in
+      (subst (λ (v : S). KeepsRules rules v (next_at at (line, true)) later t) lead.1 kept) in
       kept_goes u t later (next_at a (line, true)) here
   lead_more (l ∷ lines) line a at later u s t lead kept =
       goes_with u (next_at a (l, true)) (λ b v. LeadTo rules b v lines at s) (λ b v. LeadTo rules b v (lines ++ line ∷ []) later t) lead
@@ -84,7 +84,7 @@ module _ {S A : Type 0} (rules : Rules S A) where
       subst (λ (b : Reached). Judges rules b u (text_lines rest) o) lead.0 (subst (λ (v : S). Judges rules at v (text_lines rest) o) lead.1 judged)
   judged_from (l ∷ lines) rest a at u s o lack lead judged =
       let is : text_lines (whole_lines (l ∷ lines) ++ rest) ≡ (l, true) ∷ text_lines (whole_lines lines ++ rest) =
-          ap text_lines (append_assoc l (10 ∷ whole_lines lines) rest) ∙ ended_first l (whole_lines lines ++ rest) (All-head (Lacks 10) l lines lack) in
+      ap text_lines (append_assoc l (10 ∷ whole_lines lines) rest) ∙ ended_first l (whole_lines lines ++ rest) (All-head (Lacks 10) l lines lack) in
       subst (λ (ls : List Line). Judges rules a u ls o) (sym is)
       (on_line u a.0 (next_at a (l, true)) (λ b v. LeadTo rules b v lines at s) (λ b v. Judges rules b v (text_lines (whole_lines lines ++ rest)) o) o lead
       (λ b v after. judged_from lines rest b at v s o (All-tail (Lacks 10) l lines lack) after judged))
@@ -167,7 +167,7 @@ module _ {S A : Type 0} (rules : Rules S A) where
   stops_behind text more at later s t begun after line (Err errors.Memory) come e some stops = tt
   stops_behind text more at later s t begun after line (Err (errors.Refused flaw)) come e some stops =
       let is : trailing at.0 ≡ flaw =
-          subst (λ (n : Result (Item × Reached) Flaw). StopsAt rules s at.0 n (errors.Refused flaw)) (behind_end at line e) stops in
+      subst (λ (n : Result (Item × Reached) Flaw). StopsAt rules s at.0 n (errors.Refused flaw)) (behind_end at line e) stops in
       record {
         whole = come.whole;
         rest = begun ++ more;
@@ -195,8 +195,8 @@ module _ {S A : Type 0} (rules : Rules S A) where
   line_comes text bytes line at later s t begun (Ok u) come lacks is kept =
       let all : Lacks 10 line = subst (Lacks 10) (sym is) (All-append (λ b. b ≢ 10) begun bytes come.lacks lacks) in
       let same : text ++ (bytes ++ 10 ∷ []) ≡ come.whole ++ (line ++ 10 ∷ []) =
-          ap (λ (w : List ℕ). w ++ (bytes ++ 10 ∷ [])) come.text_is ∙ append_assoc come.whole begun (bytes ++ 10 ∷ [])
-          ∙ ap (λ (w : List ℕ). come.whole ++ w) (sym (append_assoc begun bytes (10 ∷ [])) ∙ ap (λ (w : List ℕ). w ++ 10 ∷ []) (sym is)) in
+      ap (λ (w : List ℕ). w ++ (bytes ++ 10 ∷ [])) come.text_is ∙ append_assoc come.whole begun (bytes ++ 10 ∷ [])
+      ∙ ap (λ (w : List ℕ). come.whole ++ w) (sym (append_assoc begun bytes (10 ∷ [])) ∙ ap (λ (w : List ℕ). w ++ 10 ∷ []) (sym is)) in
       record {
         whole = come.whole ++ (line ++ 10 ∷ []);
         lines = lines_more come.whole line at later s t come.lines all kept;

@@ -107,8 +107,8 @@ pieces_refused f xs i x piece g loops v e low here piece_is same_graph same_loop
     let so_far = flat_map f (take i xs) in
     let rest = flat_map f (drop (suc i) xs) in
     let same : rules_in v ≡ check_rules g loops =
-        ap (λ (h : Graph). check_rules h v.judge.loops) same_graph ∙ ap (λ (l : ℕ). check_rules g l) same_loops in
+    ap (λ (h : Graph). check_rules h v.judge.loops) same_graph ∙ ap (λ (l : ℕ). check_rules g l) same_loops in
     let all : flat_map f xs ≡ (so_far ++ piece) ++ rest =
-        flat_cut f xs i x low ∙ ap (λ (b : List ℕ). (so_far ++ b) ++ rest) (sym (piece_is ∙ ap f here)) in
+    flat_cut f xs i x low ∙ ap (λ (b : List ℕ). (so_far ++ b) ++ rest) (sym (piece_is ∙ ap f here)) in
     whole_refused (check_rules g loops) e (so_far ++ piece) rest (flat_map f xs)
     (subst (λ (r : Rules Said (ℕ × ℕ)). RefusesExactly r (so_far ++ piece) (Err e)) same refuses) all

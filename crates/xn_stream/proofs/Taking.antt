@@ -74,7 +74,7 @@ module _ (old now new : Kept) (begun piece part after bytes : List ℕ) (ended :
   part_stops errors.Memory finds text come = tt
   part_stops (errors.Refused flaw) finds text come =
       let whole : (text ++ (taken.done ++ with_end bytes ended)) ++ rest ≡ text ++ piece =
-          append_assoc text (taken.done ++ with_end bytes ended) rest ∙ ap (λ (l : List ℕ). text ++ l) all_on in
+      append_assoc text (taken.done ++ with_end bytes ended) rest ∙ ap (λ (l : List ℕ). text ++ l) all_on in
       subst (λ (t : List ℕ). HoldsFlaw (rules_of old) t flaw) whole
       (flaw_stays (rules_of old) (text ++ (taken.done ++ with_end bytes ended)) rest flaw (found (Err (errors.Refused flaw)) finds text come))
 
