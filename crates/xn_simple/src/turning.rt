@@ -18,7 +18,12 @@ pub fn turns_along(alloc: Global, map: &Map, starts: &[u32]) -> Result<Vec<u32>,
 }
 
 // The place of the dart that comes next after each listed one.
-fn turns_by(alloc: Global, map: &Map, starts: &[u32], places: &[u32]) -> Result<Vec<u32>, AllocError>
+fn turns_by(
+    alloc: Global,
+    map: &Map,
+    starts: &[u32],
+    places: &[u32],
+) -> Result<Vec<u32>, AllocError>
     requires starts { AreStarts (length map.now.next) (at map.now.next) starts.now }
     requires places { HoldPlaces starts.now places.now }
     requires darts { length places.now ≡ length map.now.next }
