@@ -5,5 +5,7 @@ pub mod Drawn
 pub mod Listed
 pub mod Lists
 pub mod Loosened
+pub mod Picked
 pub mod Steps
+pub mod Tidied
 pub mod WalksApart

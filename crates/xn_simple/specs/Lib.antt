@@ -1,4 +1,5 @@
 pub mod Crossed
 pub mod Loosened
+pub mod Tidied
 pub mod Turning
 pub mod Untouched
