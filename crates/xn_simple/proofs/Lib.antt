@@ -9,3 +9,7 @@ pub mod Picked
 pub mod Steps
 pub mod Tidied
 pub mod WalksApart
+pub mod Placed
+pub mod Tangled
+pub mod Turns
+pub mod Found

@@ -10,9 +10,10 @@ use Rattle.xn_track.specs.Steps.{end_from}
 use Rattle.xn_track.specs.Tidying.{other_at}
 use Rattle.xn_simple.specs.Tangle.{IsTangle, ListedTangle, MeetAt, named, node_in, walk_in}
 use Rattle.xn_simple.specs.Tidied.{is_crossed, order_by_walks, walk_starts}
-use Rattle.xn_simple.specs.declared.finding.Step.{Step, Beginnings, Closed, Middles}
+use Rattle.xn_simple.specs.declared.finding.Step.{Step}
+use Rattle.xn_simple.specs.declared.finding.Step.TheVariants.{Beginnings, Closed, Middles}
 use Rattle.xn_simple.specs.declared.tangle.Pass.{Pass}
-use Rattle.xn_kinds.specs.declared.drawing.Drawing.{Drawing}
+use Rattle.xn_kinds.specs.declared.drawings.Drawing.{Drawing}
 
 -- ---- steps
 
