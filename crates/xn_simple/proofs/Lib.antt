@@ -13,3 +13,5 @@ pub mod Placed
 pub mod Tangled
 pub mod Turns
 pub mod Found
+pub mod Taken
+pub mod Turned

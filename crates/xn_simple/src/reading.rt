@@ -33,7 +33,7 @@ impl Tangle {
 
     // The edge that the walk of e crosses at a place, if it crosses one there.
     fn crossed_at(&self, e: u32, i: usize) -> Option<u32>
-        requires { (g : Graph) × IsUntangled g (lists_in self.now) }
+        requires tangle { (g : Graph) × IsUntangled g (lists_in self.now) }
         requires place { suc i < length (walk_in (lists_in self.now) e) }
         ensures { result ≡ crossed_at (lists_in self.now) e (node_in (lists_in self.now) e i) }
     {
