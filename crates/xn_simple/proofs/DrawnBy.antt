@@ -50,11 +50,15 @@ module _ (g : Graph) (t : ListedTangle) (done : IsUntangled g t) where
   tidy = loosened_walks_are_drawings g edges t.map.web (at t.map.next) (named t) (walk_in t) done.tangle.is_graph done.tangle.nodes_in done.tangle.is_map.is_map
       done.tangle.loosened (meet_simply g t done)
 
-  -- the darts at which the segments begin
-  pub starts_all : List ℕ
-  starts_all = flat_map (starts_in_walk t) edges
+  module _ (numbers : List ℕ) (are : AreNumbers (length g.ends) edges numbers) (turns : List ℕ)
+      (size : length turns ≡ length (starts_by_walks edges t.map.web.ends (named t) (walk_in t)))
+      (over : PassesOver (length (starts_by_walks edges t.map.web.ends (named t) (walk_in t))) (at (starts_by_walks edges t.map.web.ends (named t) (walk_in t))) (at t.map.next) (at turns)) where
+    of_edges : IsDrawingOfEdges g edges ord (at turns)
+    of_edges = tidy.drawing (at turns) over
 
-  module _ (numbers : List ℕ) (are : AreNumbers (length g.ends) edges numbers) (orders : IsOrders g.ends edges ord) where
+    orders : IsOrders g.ends edges ord
+    orders = of_edges.orders
+
     abbrev rows : List (List ℕ)
     rows = map (λ e. map (at numbers) (ord e)) edges
 
@@ -95,11 +99,8 @@ module _ (g : Graph) (t : ListedTangle) (done : IsUntangled g t) where
     segments : length (web_of g edges ord).ends ≡ length (drawn_web sub rows).ends
     segments = row_segments edges ∙ sym (segment_count sub rows rows_fit)
 
-    pub drawn_by : (turns : List ℕ) → length turns ≡ length (starts_by_walks edges t.map.web.ends (named t) (walk_in t)) →
-        PassesOver (length (starts_by_walks edges t.map.web.ends (named t) (walk_in t))) (at (starts_by_walks edges t.map.web.ends (named t) (walk_in t))) (at t.map.next) (at turns) →
-        (d : Drawing) → d.orders ≡ rows → d.next ≡ turns → IsDrawnBy g t d
-    drawn_by turns size over d orders_are next_is =
-        let of_edges = tidy.drawing (at turns) over in
+    pub drawn_by : (d : Drawing) → d.orders ≡ rows → d.next ≡ turns → IsDrawnBy g t d
+    drawn_by d orders_are next_is =
         let renamed = drawings_of_edges_are_drawings g edges ord (at turns) of_edges in
         let D : List (List ℕ) → List ℕ → Type 0 = λ ls ns. IsListedDrawing sub ls ns × (crossing_count sub (order_of sub ls) ≤ named_count t) in
         let both : D rows turns = (
@@ -114,7 +115,3 @@ module _ (g : Graph) (t : ListedTangle) (done : IsUntangled g t) where
         ) in
         let there = subst (λ ls. D ls d.next) (sym orders_are) (subst (λ ns. D rows ns) (sym next_is) both) in
         record { drawing = there.0; few = there.1 }
-
-  -- the orders that are read off
-  pub orders_read : (turns : ℕ → ℕ) → IsDrawingOfEdges g edges ord turns → IsOrders g.ends edges ord
-  orders_read turns d = d.orders

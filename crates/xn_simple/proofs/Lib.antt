@@ -17,3 +17,4 @@ pub mod Tidied
 pub mod Turned
 pub mod Turns
 pub mod WalksApart
+pub mod Untangled
