@@ -10,11 +10,12 @@ pub mod Loosened
 pub mod Picked
 pub mod Placed
 pub mod Read
+pub mod Sharing
 pub mod Steps
 pub mod Taken
 pub mod Tangled
 pub mod Tidied
 pub mod Turned
 pub mod Turns
-pub mod WalksApart
 pub mod Untangled
+pub mod WalksApart

@@ -1,5 +1,5 @@
 // The steps themselves: lists of darts are cut, joined and turned, and nodes are no longer named.
-ghost use Rattle.std.specs.Prelude.{◌≡◌, ◌×◌, ◌<◌, suc, IfOk, OnOk, length};
+ghost use Rattle.std.specs.Prelude.{◌≡◌, ◌<◌, suc, IfOk, OnOk, length};
 ghost use Rattle.xn_model.specs.Graph.{Graph};
 ghost use Rattle.xn_track.specs.Steps.{crossing_over, reverse_walk, turned_walk};
 ghost use Rattle.xn_simple.specs.Tangle.{IsTangle, lists_in};

@@ -1,5 +1,5 @@
 // Loose drawings are made simple.
-ghost use Rattle.std.specs.Prelude.{◌≡◌, ◌+◌, ◌×◌, ◌≤◌, ℕ, IfOk, OnOk, length};
+ghost use Rattle.std.specs.Prelude.{◌≡◌, ◌+◌, ◌≤◌, ℕ, IfOk, OnOk, length};
 ghost use Rattle.xn_list.specs.Lists.{lists_of};
 ghost use Rattle.xn_model.specs.Drawing.{IsListedDrawing, order_of};
 ghost use Rattle.xn_model.specs.Orders.{crossing_count};
