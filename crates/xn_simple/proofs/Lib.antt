@@ -7,6 +7,7 @@ pub mod Found
 pub mod Listed
 pub mod Lists
 pub mod Loosened
+pub mod MeetAgain
 pub mod Picked
 pub mod Placed
 pub mod Read
