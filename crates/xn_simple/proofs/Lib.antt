@@ -1,6 +1,7 @@
 pub mod Agreeing
 pub mod Answered
 pub mod Apart
+pub mod Begun
 pub mod Drawn
 pub mod DrawnBy
 pub mod Found
