@@ -12,7 +12,7 @@ use Rattle.xn_map.specs.Marks.{is_marked}
 use Rattle.xn_track.specs.Steps.{with_walk}
 use Rattle.xn_insert.specs.ListedLoose.{walk_of}
 use Rattle.xn_simple.specs.Loosened.{IsLoosened, all_but}
-use Rattle.xn_simple.specs.Tangle.{HoldNotes, IsNoted, IsPut, IsTangle, ListedTangle, named, unmarked, walk_in}
+use Rattle.xn_simple.specs.Tangle.{HoldNotes, IsNoted, IsWalkPut, IsTangle, ListedTangle, named, unmarked, walk_in}
 use Rattle.xn_simple.specs.Untangling.{KeepsMap, Leaves, named_count}
 
 -- ---- as functions
@@ -59,7 +59,7 @@ notes_stay e f walk old owners places owners_now places_now noted apart held j j
 
 -- ---- one walk is changed
 
-module _ (g : Graph) (old : ListedTangle) (tangle : IsTangle g old) (e : ℕ) (walk : List ℕ) (new : ListedTangle) (put : IsPut e walk old new) (e_in : e < length old.walks) where
+module _ (g : Graph) (old : ListedTangle) (tangle : IsTangle g old) (e : ℕ) (walk : List ℕ) (new : ListedTangle) (put : IsWalkPut e walk old new) (e_in : e < length old.walks) where
   pub walk_put : walk_in new ≡ with_walk (walk_in old) e walk
   walk_put = ap walk_of put.walks ∙ walks-put old.walks e walk e_in
 
@@ -124,7 +124,7 @@ only_put edges walks e walk e_in only h out = elim (cases_eq h e) [
 ]
 
 -- each walk is noted once one is put
-pub notes_put : (e : ℕ) (walk : List ℕ) (old new : ListedTangle) → IsPut e walk old new → e < length old.walks →
+pub notes_put : (e : ℕ) (walk : List ℕ) (old new : ListedTangle) → IsWalkPut e walk old new → e < length old.walks →
     ((h i j : ℕ) → h ≢ e → i < length walk → j < length (walk_in old h) → at walk i / 2 ≢ at (walk_in old h) j / 2) →
     ((h : ℕ) → h ≢ e → HoldNotes old.owners old.places h (walk_in old h)) → (h : ℕ) → HoldNotes new.owners new.places h (walk_in new h)
 notes_put e walk old new put e_in apart held h =

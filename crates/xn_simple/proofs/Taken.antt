@@ -11,7 +11,7 @@ use Rattle.xn_track.specs.Steps.{with_walk}
 use Rattle.xn_track.proofs.Passes.{edge_in as edge_low, walk_in as dart_of_walk}
 use Rattle.xn_insert.specs.ListedLoose.{walk_of}
 use Rattle.xn_simple.specs.Loosened.{IsLoosened, all_but}
-use Rattle.xn_simple.specs.Tangle.{HoldNotes, IsPut, IsTangle, ListedTangle, named, unmarked, walk_in}
+use Rattle.xn_simple.specs.Tangle.{HoldNotes, IsWalkPut, IsTangle, ListedTangle, named, unmarked, walk_in}
 use Rattle.xn_simple.specs.Untangling.{Leaves, named_count}
 use Rattle.xn_simple.proofs.Placed.{marks-unset, notes_put, one_less, only_put, put_others, still_named, tangle_now, walks-put}
 use Rattle.xn_simple.proofs.Tangled.{edge_in, once_apart}
@@ -123,7 +123,7 @@ module _ (g : Graph) (old : ListedTangle) (tangle : IsTangle g old) where
     pub two_low : (i : ℕ) → i < length two → at two i < 2 * length old.owners
     two_low = subst (λ xs. (i : ℕ) → i < length xs → at xs i < 2 * length old.owners) is_two (λ i. law_in (named mid) walks law only f i f_in)
 
-    module _ (half new : ListedTangle) (put : IsPut e one mid half) (put_two : IsPut f two half new) where
+    module _ (half new : ListedTangle) (put : IsWalkPut e one mid half) (put_two : IsWalkPut f two half new) where
       e_low : e < length mid.walks
       e_low = let low = list_in e e_in in let same = ap length less.same_walks in omega (arith, low, same)
 
@@ -214,7 +214,7 @@ module _ (g : Graph) (old : ListedTangle) (tangle : IsTangle g old) where
     pub own_low : (i : ℕ) → i < length one → at one i < 2 * length old.owners
     own_low = subst (λ xs. (i : ℕ) → i < length xs → at xs i < 2 * length old.owners) own_is (λ i. law_in (named mid) (with_walk (walk_in old) e one) law own_only e i e_in)
 
-    module _ (new : ListedTangle) (put : IsPut e one mid new) where
+    module _ (new : ListedTangle) (put : IsWalkPut e one mid new) where
       walks_now : walk_in new ≡ with_walk (walk_in old) e one
       walks_now =
           let low = list_in e e_in in

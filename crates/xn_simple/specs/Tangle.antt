@@ -77,7 +77,7 @@ pub record IsNoted (e : ℕ) (walk owners places owners_now places_now : List �
   pub others : (s : ℕ) → ((i : ℕ) → i < length walk → at walk i / 2 ≢ s) → (at owners_now s ≡ at owners s) × (at places_now s ≡ at places s)
 
 -- e has another walk, which is noted
-pub record IsPut (e : ℕ) (walk : List ℕ) (old new : ListedTangle) : Type 0 where
+pub record IsWalkPut (e : ℕ) (walk : List ℕ) (old new : ListedTangle) : Type 0 where
   pub same_map : new.map ≡ old.map
   pub same_edges : new.edges ≡ old.edges
   pub same_marks : new.four ≡ old.four
@@ -143,7 +143,8 @@ pub record AreFurther (first nodes : ℕ) (four : List Bool) : Type 0 where
 pub record WalksAreApart (segments : ℕ) (walks : List (List ℕ)) : Type 0 where
   pub few : length walks ≤ 1000
   pub below : (e i : ℕ) → i < length (walk_of walks e) → at (walk_of walks e) i < 2 * segments
-  pub apart : (e f i j : ℕ) → i < length (walk_of walks e) → j < length (walk_of walks f) → at (walk_of walks e) i / 2 ≡ at (walk_of walks f) j / 2 → (e ≡ f) × (i ≡ j)
+  pub apart : (e f i j : ℕ) → i < length (walk_of walks e) → j < length (walk_of walks f) →
+      at (walk_of walks e) i / 2 ≡ at (walk_of walks f) j / 2 → (e ≡ f) × (i ≡ j)
 
 -- the walks are noted
 pub record AreNotesOf (segments : ℕ) (walks : List (List ℕ)) (owners places : List ℕ) : Type 0 where

@@ -1,7 +1,7 @@
 // Walks over a map that stays as it is, while they are cut and joined so that they meet less.
 ghost use Rattle.std.specs.Prelude.{◌≡◌, ◌*◌, ◌/◌, ◌<◌, ℕ, suc, true, length};
 ghost use Rattle.xn_model.specs.Lists.{at};
-ghost use Rattle.xn_simple.specs.Tangle.{IsNoted, IsOther, IsPassIn, IsPassOver, IsPut, IsSomeTangle, lists_in, named, node_in, unmarked, walk_in};
+ghost use Rattle.xn_simple.specs.Tangle.{IsNoted, IsOther, IsPassIn, IsPassOver, IsWalkPut, IsSomeTangle, lists_in, named, node_in, unmarked, walk_in};
 
 use xn_map::Map;
 
@@ -60,7 +60,7 @@ impl Tangle {
         requires owners { (i : ℕ) → i < length walk.items → at walk.items i < 2 * length self.old.notes.owners.items }
         requires places { length self.old.notes.places.items ≡ length self.old.notes.owners.items }
         requires apart { (i j : ℕ) → i < length walk.items → j < length walk.items → at walk.items i / 2 ≡ at walk.items j / 2 → i ≡ j }
-        ensures { IsPut e walk.items (lists_in self.old) (lists_in self.new) }
+        ensures { IsWalkPut e walk.items (lists_in self.old) (lists_in self.new) }
     {
         self.notes.note(e, &walk);
         self.walks[e as usize] = walk;
