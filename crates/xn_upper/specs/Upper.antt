@@ -1,9 +1,12 @@
 -- Loose drawings of all edges, and the orders in which edges come in.
-use Rattle.std.specs.Prelude.{◌≡◌, ℕ, ◌<◌, true, Bool, List, length}
+use Rattle.std.specs.Prelude.{◌≡◌, ◌⊎◌, ◌≤◌, ℕ, ◌<◌, true, false, Bool, IfSome, Option, List, [], ◌++◌, length, nat_eq, take}
 use Rattle.std.specs.List.{IsDistinct}
-use Rattle.std.specs.Prelude.{nat_eq}
 use Rattle.xn_model.specs.Graph.{Graph, edges_of}
 use Rattle.xn_model.specs.Lists.{has}
+use Rattle.xn_model.specs.Orders.{IsEdgeList}
+use Rattle.xn_model.specs.Web.{web_of}
+use Rattle.xn_components.specs.Listing.{IsFlatMapOf}
+use Rattle.xn_map.specs.Listed.{ListedMap}
 use Rattle.xn_map.specs.Marks.{is_marked}
 use Rattle.xn_insert.specs.ListedLoose.{IsLooseOf, ListedLoose, edges_in}
 
@@ -36,3 +39,30 @@ pub record IsStartWith (g : Graph) (l : ListedLoose) (marks : List Bool) : Type 
   pub loose : IsLooseOf g l
   pub fits : length marks ≡ length g.ends
   pub exactly : (e : ℕ) → e < length g.ends → has (edges_in l) e ≡ is_marked marks e
+
+-- ---- edges that lie flat
+
+-- no two edges cross
+abbrev pub none_cross : ℕ → List ℕ
+none_cross e = []
+
+-- the map, where there is one, is a flat map of these edges
+abbrev pub LiesFlat : Graph → List ℕ → Option ListedMap → Type 0
+LiesFlat g kept map = IfSome map (IsFlatMapOf (web_of g kept none_cross))
+
+-- the listed edges are different ones that aren't kept
+pub record MayCome (g : Graph) (kept list : List ℕ) : Type 0 where
+  pub below : (e : ℕ) → has list e ≡ true → e < length g.ends
+  pub new : (e : ℕ) → has list e ≡ true → has kept e ≡ false
+  pub once : IsDistinct nat_eq list
+
+-- the elements of both lists, in rising order where no element stands twice
+pub record IsMergedList (one two all : List ℕ) : Type 0 where
+  pub elements : (x : ℕ) → has all x ≡ has (one ++ two) x
+  pub rises : (count : ℕ) → IsDistinct nat_eq (one ++ two) → ((x : ℕ) → has (one ++ two) x ≡ true → x < count) → IsEdgeList count all
+
+-- the first n of the list are kept besides
+pub record KeepsFront (g : Graph) (n : ℕ) (list old new : List ℕ) : Type 0 where
+  pub within : n ≤ length list
+  pub edge_list : IsEdgeList (length g.ends) new
+  pub elements : (x : ℕ) → has new x ≡ has (old ++ take n list) x

@@ -1,7 +1,9 @@
 // Edges that are kept as long as they have a flat map.
-ghost use Rattle.std.specs.Prelude.{◌≡◌, ◌<◌, ◌≤◌, IfOk, length};
+ghost use Rattle.std.specs.Prelude.{◌≡◌, [], IfOk, IfSome, length, replicate};
+ghost use Rattle.xn_components.specs.Listing.{IsFlatMapOf};
 ghost use Rattle.xn_model.specs.Orders.{IsEdgeList};
-ghost use Rattle.xn_upper.specs.Upper.{IsOrderOfAll, IsStartWith, LiesFlat};
+ghost use Rattle.xn_model.specs.Web.{web_of};
+ghost use Rattle.xn_upper.specs.Upper.{IsMergedList, IsOrderOfAll, IsStartWith, KeepsFront, LiesFlat, MayCome, none_cross};
 
 use std::alloc::{AllocError, Global};
 use xn_dmp::{Attempt, try_embed};

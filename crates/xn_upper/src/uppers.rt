@@ -1,9 +1,9 @@
 // The best of several orders of the edges.
-ghost use Rattle.std.specs.Prelude.{◌≡◌, ◌<◌, IfOk, OnOk, length};
+ghost use Rattle.std.specs.Prelude.{◌≡◌, ◌<◌, IfOk, false, length};
 ghost use Rattle.xn_model.specs.Drawing.{IsListedDrawing};
 ghost use Rattle.xn_model.specs.Lists.{has};
-ghost use Rattle.xn_insert.specs.ListedLoose.{edges_in};
-ghost use Rattle.xn_upper.specs.Upper.{IsOrderOfAll, IsWholeOf};
+ghost use Rattle.xn_insert.specs.ListedLoose.{IsLooseOf, edges_in};
+ghost use Rattle.xn_upper.specs.Upper.{HasOneMore, IsOrderOfAll, IsWholeOf};
 
 use crate::flat_fronts::flat_start;
 use crate::improving::improved;
