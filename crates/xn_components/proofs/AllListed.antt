@@ -10,8 +10,8 @@ use Rattle.xn_model.specs.Graph.{Graph, ends_at}
 use Rattle.xn_model.specs.Lists.{at, has, position_in}
 use Rattle.xn_genus.specs.Part.{AreSegmentsApart}
 use Rattle.xn_graph.specs.Limits.{graph_of}
-use Rattle.xn_extend.specs.Extended.{listed_web}
-use Rattle.xn_extend.proofs.Misfits.{any_at, few_different}
+use Rattle.xn_reach.specs.Extended.{listed_web}
+use Rattle.xn_reach.proofs.Misfits.{any_at, few_different}
 use Rattle.xn_components.specs.Listing.{ListsAll}
 use Rattle.xn_components.proofs.Flooding.{has_at, in_range}
 use Rattle.xn_components.proofs.Overlaid.{few_apart}

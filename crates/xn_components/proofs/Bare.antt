@@ -6,7 +6,7 @@ use Rattle.xn_model.specs.Map.{IsFlat, IsMap, is_lone}
 use Rattle.xn_model.specs.Permutation.{Permutes, count_below}
 use Rattle.xn_ring.proofs.Counting.{count-all}
 use Rattle.xn_genus.proofs.Counts.{no_segments}
-use Rattle.xn_extend.specs.Extended.{listed_web}
+use Rattle.xn_reach.specs.Extended.{listed_web}
 use Rattle.xn_components.specs.Listing.{IsLaid}
 
 bare_flat : (web : Graph) (next : ℕ → ℕ) → IsFlat (listed_web web []) next

@@ -10,9 +10,9 @@ use Rattle.xn_model.specs.Map.{tail_of}
 use Rattle.xn_model.proofs.Darts.{tail-even, tail-odd}
 use Rattle.xn_genus.specs.Part.{AreSegmentsApart}
 use Rattle.xn_map.specs.Marks.{is_marked}
-use Rattle.xn_extend.specs.ListFlaw.{AllFit, SharesNode, share_node}
-use Rattle.xn_extend.proofs.Listing.{grows_from_fit}
-use Rattle.xn_extend.proofs.Misfits.{any_at, few_different}
+use Rattle.xn_reach.specs.ListFlaw.{AllFit, SharesNode, share_node}
+use Rattle.xn_reach.proofs.Listing.{grows_from_fit}
+use Rattle.xn_reach.proofs.Misfits.{any_at, few_different}
 use Rattle.xn_components.specs.Flood.{AreBothMet, AreWholeComponents, IsFlood, MarksComponent, ReachedBy}
 
 -- what is in either list is in both together

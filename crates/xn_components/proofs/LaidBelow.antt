@@ -7,8 +7,8 @@ use Rattle.xn_model.specs.Graph.{Graph, HasNoLoop, ends_at}
 use Rattle.xn_model.specs.Lists.{at, has}
 use Rattle.xn_genus.specs.Part.{AreSegmentsApart, ends_listed}
 use Rattle.xn_map.specs.Marks.{is_marked}
-use Rattle.xn_extend.proofs.Ending.{apart_from_grows}
-use Rattle.xn_extend.proofs.Misfits.{any_at}
+use Rattle.xn_reach.proofs.Ending.{apart_from_grows}
+use Rattle.xn_reach.proofs.Misfits.{any_at}
 use Rattle.xn_components.specs.Flood.{AreWholeComponents, MarksComponent, ShareNoNode}
 use Rattle.xn_components.specs.Listing.{LaidParts, ListsAll}
 use Rattle.xn_components.proofs.Flooding.{has_append, in_range}

@@ -8,7 +8,7 @@ use Rattle.xn_model.specs.Lists.{at}
 use Rattle.xn_model.specs.Map.{tail_of}
 use Rattle.xn_model.proofs.Darts.{cases_dart, tail-even, tail-odd}
 use Rattle.xn_map.specs.Marks.{is_marked}
-use Rattle.xn_extend.specs.Search.{IsLatestAt}
+use Rattle.xn_reach.specs.Search.{IsLatestAt}
 use Rattle.xn_components.specs.Flood.{IsFlood, MeetsNode, ReachedBy}
 use Rattle.xn_components.specs.Incidence.{AreChains}
 use Rattle.xn_components.proofs.Flooding.{at_old, flood_more, size_more}

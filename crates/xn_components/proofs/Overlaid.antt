@@ -10,10 +10,10 @@ use Rattle.xn_genus.specs.Part.{AreSegmentsApart, IsPart, dart_listed, ends_list
 use Rattle.xn_genus.proofs.Listed.{part_listed}
 use Rattle.xn_genus.proofs.Lone.{dart_if_not_lone}
 use Rattle.xn_surgery.specs.Overlay.{IsOverlay, OverlayIsAMap, OverlayKeepsFlat, ShareNothing}
-use Rattle.xn_extend.specs.Extended.{listed_web}
-use Rattle.xn_extend.specs.ListFlaw.{share_node}
-use Rattle.xn_extend.proofs.Corners.{e_half}
-use Rattle.xn_extend.proofs.Misfits.{few_different}
+use Rattle.xn_reach.specs.Extended.{listed_web}
+use Rattle.xn_reach.specs.ListFlaw.{share_node}
+use Rattle.xn_reach.proofs.Corners.{e_half}
+use Rattle.xn_reach.proofs.Misfits.{few_different}
 use Rattle.xn_components.specs.Flood.{ShareNoNode}
 use Rattle.xn_components.specs.Listing.{AreBeside, IsLaid}
 use Rattle.xn_components.proofs.Flooding.{has_at, share_at}

@@ -12,8 +12,8 @@ use Rattle.xn_genus.specs.Part.{AreSegmentsApart, IsPart, dart_listed, ends_list
 use Rattle.xn_genus.specs.Renumbering.{IsRenumbering, RenumberingKeepsFlat, RenumberingLeavesAMap}
 use Rattle.xn_genus.proofs.Listed.{part_listed}
 use Rattle.xn_map.specs.Listed.{ListedMap, map_of}
-use Rattle.xn_extend.specs.Extended.{listed_web}
-use Rattle.xn_extend.proofs.Misfits.{any_at}
+use Rattle.xn_reach.specs.Extended.{listed_web}
+use Rattle.xn_reach.proofs.Misfits.{any_at}
 use Rattle.xn_components.specs.Listing.{IsLaid, IsRearranged}
 use Rattle.xn_components.specs.Ranks.{AreRanks, IsRanking, Renames, ranked_dart}
 use Rattle.xn_components.proofs.Flooding.{has_at}

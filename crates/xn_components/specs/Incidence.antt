@@ -1,7 +1,7 @@
 -- The darts at each node, as a chain from the greatest to the least.
 use Rattle.std.specs.Prelude.{◌≡◌, ℕ, ◌*◌, ◌<◌, Option, None, List, length, slice_index_or}
 use Rattle.xn_model.specs.Graph.{Graph}
-use Rattle.xn_extend.specs.Search.{AreEarlier, IsLatestAt}
+use Rattle.xn_reach.specs.Search.{AreEarlier, IsLatestAt}
 use Rattle.xn_components.specs.declared.incidence.Incidence.{Incidence}
 
 -- for each node its greatest dart, and for each dart the greatest one below it at its node

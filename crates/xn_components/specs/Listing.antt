@@ -5,7 +5,7 @@ use Rattle.xn_model.specs.Lists.{at, has}
 use Rattle.xn_model.specs.Map.{IsFlat}
 use Rattle.xn_genus.specs.Part.{AreSegmentsApart, dart_listed}
 use Rattle.xn_map.specs.Listed.{ListedMap, map_of}
-use Rattle.xn_extend.specs.Extended.{listed_web}
+use Rattle.xn_reach.specs.Extended.{listed_web}
 
 -- a flat map of the web
 pub record IsFlatMapOf (web : Graph) (map : ListedMap) : Type 0 where

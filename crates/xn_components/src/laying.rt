@@ -2,7 +2,7 @@
 ghost use Rattle.std.specs.Prelude.{◌≡◌, ◌+◌, ◌^◌, ◌≤◌, ◌++◌, [], IfOk, length};
 ghost use Rattle.std.specs.List.{range_with_len};
 ghost use Rattle.xn_genus.specs.Part.{AreSegmentsApart};
-ghost use Rattle.xn_extend.specs.Extended.{listed_web};
+ghost use Rattle.xn_reach.specs.Extended.{listed_web};
 ghost use Rattle.xn_components.specs.Flood.{ShareNoNode};
 ghost use Rattle.xn_components.specs.Listing.{AreBeside, IsFlatMapOf, ListsAll};
 

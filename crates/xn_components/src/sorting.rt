@@ -6,7 +6,7 @@ ghost use Rattle.xn_components.specs.Listing.{IsLaid, IsRearranged};
 ghost use Rattle.xn_components.specs.Ranks.{AreRanks, IsRanking, Renames, ranked_dart};
 
 use std::alloc::{AllocError, Global};
-use xn_extend::listed_web;
+use xn_reach::listed_web;
 use xn_genus::laws::renumbering;
 use xn_graph::Web;
 use xn_map::{Map, MapErr};

@@ -8,7 +8,7 @@ use Rattle.xn_model.specs.Lists.{at, has}
 use Rattle.xn_model.specs.Map.{tail_of}
 use Rattle.xn_map.specs.Anchored.{IsDartOf}
 use Rattle.xn_map.specs.Marks.{is_marked}
-use Rattle.xn_extend.proofs.Misfits.{any_at}
+use Rattle.xn_reach.proofs.Misfits.{any_at}
 use Rattle.xn_components.proofs.Flooding.{at_new, at_old, has_append, has_at, size_more}
 use Rattle.xn_components.proofs.Meeting.{touches_tail}
 use Rattle.xn_dmp.specs.Fragments.{FindsMore, Gathers, IsFound}

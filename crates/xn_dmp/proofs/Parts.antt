@@ -7,7 +7,7 @@ use Rattle.xn_model.specs.Insertion.{is_old}
 use Rattle.xn_model.specs.Lists.{at, has}
 use Rattle.xn_model.specs.Map.{reverse_of, tail_of}
 use Rattle.xn_model.proofs.Darts.{reverse-even, reverse-odd, tail-even, tail-odd}
-use Rattle.xn_extend.proofs.Misfits.{any_at}
+use Rattle.xn_reach.proofs.Misfits.{any_at}
 use Rattle.xn_components.proofs.Flooding.{has_append, has_at}
 use Rattle.xn_dmp.specs.Growing.{IsOnePart, JoinedBy, WalksBy}
 

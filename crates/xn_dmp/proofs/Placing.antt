@@ -20,9 +20,9 @@ use Rattle.xn_map.specs.Listed.{IsListedMap, ListedMap}
 use Rattle.xn_map.specs.Marks.{is_marked}
 use Rattle.xn_map.specs.declared.corners.Corner.{Corner}
 use Rattle.xn_map.specs.declared.corners.Corner.TheVariants.{After, Lone}
-use Rattle.xn_extend.specs.Extended.{listed_web}
-use Rattle.xn_extend.proofs.Misfits.{any_at}
-use Rattle.xn_extend.proofs.Old.{old_from_dart}
+use Rattle.xn_reach.specs.Extended.{listed_web}
+use Rattle.xn_reach.proofs.Misfits.{any_at}
+use Rattle.xn_reach.proofs.Old.{old_from_dart}
 use Rattle.xn_components.specs.Listing.{IsFlatMapOf}
 use Rattle.xn_components.proofs.Flooding.{at_new, at_old, has_append, has_at, in_range, size_more}
 use Rattle.xn_components.proofs.Overlaid.{few_apart}

@@ -14,7 +14,7 @@ use Rattle.xn_model.specs.Orders.{IsEdgeList}
 use Rattle.xn_genus.specs.Part.{AreSegmentsApart}
 use Rattle.xn_map.specs.Listed.{ListedMap}
 use Rattle.xn_map.specs.Marks.{is_marked}
-use Rattle.xn_extend.specs.Extended.{listed_web}
+use Rattle.xn_reach.specs.Extended.{listed_web}
 use Rattle.xn_components.specs.Listing.{IsFlatMapOf, IsLaid}
 use Rattle.xn_components.proofs.Flooding.{has_at, in_range}
 use Rattle.xn_dmp.specs.Growing.{Grown, IsGrown, IsNext, KeepsAll, Reorders, grown_of}

@@ -6,10 +6,10 @@ use Rattle.xn_model.specs.Insertion.{GrowsFromFirst, is_old}
 use Rattle.xn_model.specs.Lists.{at, has}
 use Rattle.xn_genus.specs.Part.{AreSegmentsApart}
 use Rattle.xn_map.specs.Marks.{is_marked}
-use Rattle.xn_extend.specs.ListFlaw.{SharesNode}
-use Rattle.xn_extend.proofs.Ending.{apart_from_grows}
-use Rattle.xn_extend.proofs.Listing.{fit_from_grows}
-use Rattle.xn_extend.proofs.Misfits.{any_at}
+use Rattle.xn_reach.specs.ListFlaw.{SharesNode}
+use Rattle.xn_reach.proofs.Ending.{apart_from_grows}
+use Rattle.xn_reach.proofs.Listing.{fit_from_grows}
+use Rattle.xn_reach.proofs.Misfits.{any_at}
 use Rattle.xn_components.proofs.Flooding.{has_at}
 use Rattle.xn_dmp.specs.Attempts.{PlacesAll}
 use Rattle.xn_dmp.specs.Growing.{Grown, Grows, IsBegun, IsGrown, IsNext, KeepsAll}

@@ -11,7 +11,7 @@ use Rattle.xn_map.specs.Listed.{ListedMap}
 use Rattle.xn_map.specs.Marks.{is_marked}
 use Rattle.xn_map.specs.declared.corners.Corner.{Corner}
 use Rattle.xn_map.specs.declared.corners.Corner.TheVariants.{After, Lone}
-use Rattle.xn_extend.specs.Extended.{listed_web}
+use Rattle.xn_reach.specs.Extended.{listed_web}
 use Rattle.xn_components.specs.Listing.{IsFlatMapOf}
 
 -- a web, the segments that are placed in a map of all nodes, in its order, and marks of those that may still be placed

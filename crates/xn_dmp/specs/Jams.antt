@@ -7,7 +7,7 @@ use Rattle.xn_model.specs.Map.{face_step, tail_of}
 use Rattle.xn_model.specs.Orders.{IsEdgeList}
 use Rattle.xn_model.specs.Permutation.{Reaches}
 use Rattle.xn_genus.specs.Part.{ends_listed}
-use Rattle.xn_extend.specs.Extended.{listed_web}
+use Rattle.xn_reach.specs.Extended.{listed_web}
 use Rattle.xn_components.specs.Listing.{IsFlatMapOf}
 use Rattle.xn_dmp.specs.Growing.{IsOnePart}
 use Rattle.xn_dmp.specs.declared.jams.Jam.{Jam}

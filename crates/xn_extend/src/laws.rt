@@ -1,10 +1,8 @@
-//! Laws on insertions. Each is the contract of a function with an empty body.
-ghost use Rattle.xn_extend.specs.Laws.{FlatMapsOfAListAreReached, FlatMapsRestrictToInsertions, ReachedMapsAreFlat, StuckMeansNoFlatMap};
+//! Laws on lists whose end flat insertions reach. Each is the contract of a function with an empty body.
+ghost use Rattle.xn_extend.specs.Laws.{FlatWhereEndIsReached, StuckWhereNotFlat};
 
-/// Insertions reach exactly the flat maps of the listed segments: where they are stuck the web has no flat map.
-pub fn stuck_lists()
-    ensures reached { FlatMapsOfAListAreReached }
-    ensures flat { ReachedMapsAreFlat }
-    ensures restricted { FlatMapsRestrictToInsertions }
-    ensures stuck { StuckMeansNoFlatMap }
+/// Flat insertions reach the end of a list exactly where the web of its segments has a flat map; elsewhere they are stuck.
+pub fn listed_webs()
+    ensures reached { FlatWhereEndIsReached }
+    ensures stuck { StuckWhereNotFlat }
 {}

@@ -14,7 +14,7 @@ use Rattle.xn_genus.specs.Part.{AreSegmentsApart, ends_listed}
 use Rattle.xn_graph.specs.Limits.{HasNodes}
 use Rattle.xn_graph.proofs.Ends.{EndsIn-at, EndsIn-from_each}
 use Rattle.xn_ring.proofs.Inverse.{range_with_len-more}
-use Rattle.xn_extend.specs.Extended.{listed_web}
+use Rattle.xn_reach.specs.Extended.{listed_web}
 use Rattle.xn_components.proofs.AllListed.{all_web}
 use Rattle.xn_components.proofs.Flooding.{has_at}
 use Rattle.xn_components.proofs.LaidBelow.{no_loop_listed}

@@ -2,7 +2,7 @@
 use Rattle.std.proofs.Common.{◌≡◌, ℕ, suc, ◌≤◌, List}
 use Rattle.xn_model.specs.Graph.{Graph}
 use Rattle.xn_genus.specs.Part.{ends_listed}
-use Rattle.xn_extend.specs.Extended.{listed_web}
+use Rattle.xn_reach.specs.Extended.{listed_web}
 use Rattle.xn_fewer.specs.Flat.{HasFlat}
 use Rattle.xn_planar.specs.Leaving.{from_front}
 use Rattle.xn_planar.specs.Planar.{HasNoFlatMap}

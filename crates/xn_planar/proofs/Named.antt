@@ -12,8 +12,8 @@ use Rattle.xn_kinds.specs.Row.{EvidenceHolds}
 use Rattle.xn_kinds.specs.declared.rows.Evidence.{Evidence}
 use Rattle.xn_kinds.specs.declared.rows.Evidence.TheVariants.{Five, ThreeThree, Extension}
 use Rattle.xn_genus.specs.Part.{AreSegmentsApart, ends_listed}
-use Rattle.xn_extend.specs.Extended.{listed_web}
-use Rattle.xn_extend.proofs.Corners.{size_listed}
+use Rattle.xn_reach.specs.Extended.{listed_web}
+use Rattle.xn_reach.proofs.Corners.{size_listed}
 use Rattle.xn_components.proofs.Flooding.{has_append, has_at}
 use Rattle.xn_kura.specs.Flaws.{HasAKind}
 use Rattle.xn_planar.specs.Named.{AreAllPlaces, NamesPlaces, named, named_path, named_paths}

@@ -4,7 +4,7 @@ use Rattle.std.specs.List.{range_with_len}
 use Rattle.xn_model.specs.Graph.{Graph}
 use Rattle.xn_model.specs.Lists.{at, has}
 use Rattle.xn_genus.specs.Part.{ends_listed}
-use Rattle.xn_extend.specs.Extended.{listed_web}
+use Rattle.xn_reach.specs.Extended.{listed_web}
 use Rattle.xn_fewer.specs.Flat.{HasFlat}
 use Rattle.xn_kuratowski.specs.Core.{IsCore}
 use Rattle.xn_planar.specs.Named.{RiseBelow}

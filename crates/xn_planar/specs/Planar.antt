@@ -4,7 +4,7 @@ use Rattle.xn_model.specs.Graph.{Graph}
 use Rattle.xn_model.specs.Map.{IsFlat}
 use Rattle.xn_kinds.specs.Row.{EvidenceHolds}
 use Rattle.xn_kinds.specs.declared.rows.Evidence.{Evidence}
-use Rattle.xn_extend.specs.Extended.{listed_web}
+use Rattle.xn_reach.specs.Extended.{listed_web}
 use Rattle.xn_components.specs.Listing.{IsFlatMapOf}
 use Rattle.xn_fewer.specs.Flat.{HasFlat}
 use Rattle.xn_kura.specs.Flaws.{HasAKind}

@@ -8,7 +8,7 @@ use crate::chains::chains_of;
 use std::alloc::{AllocError, Global};
 use xn_blocks::blocks;
 use xn_dmp::{Attempt, Jam, try_embed};
-use xn_extend::listed_web;
+use xn_reach::listed_web;
 use xn_graph::Web;
 
 /// Segments at which embedding by paths gets stuck, where no chain can be left out. It begins with the block of the

@@ -9,8 +9,8 @@ use crate::renaming::evidence_within;
 use std::alloc::{AllocError, Global};
 use xn_components::{Incidence, Laid, component_from};
 use xn_dmp::{Attempt, Jam, try_embed};
-use xn_extend::laws::stuck_lists;
-use xn_extend::{Extended, extend};
+use xn_reach::laws::stuck_lists;
+use xn_reach::{Extended, reached_map};
 use xn_graph::Web;
 use xn_kinds::Evidence;
 use xn_map::Map;
@@ -89,7 +89,7 @@ fn extend_each(
     for s in 0..web.segments() {
         if !marks[s as usize] {
             let list = component_from(alloc, web, darts, marks, s)?;
-            match extend(alloc, web, &list)? {
+            match reached_map(alloc, web, &list)? {
                 Extended::Flat(map) => laid = laid.lay(&list, &map)?,
                 Extended::None => return Ok(Decision::NoMap),
             }

@@ -5,7 +5,7 @@ ghost use Rattle.xn_planar.specs.Named.{AreAllPlaces, ArePlaces, NamesPlaces, na
 ghost use Rattle.xn_planar.specs.Planar.{IsEvidenceWithin};
 
 use std::alloc::{AllocError, Global};
-use xn_extend::listed_web;
+use xn_reach::listed_web;
 use xn_graph::Web;
 use xn_kinds::{Evidence, Paths};
 use xn_kura::find_kind;

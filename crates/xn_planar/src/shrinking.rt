@@ -2,13 +2,13 @@
 ghost use Rattle.std.specs.Prelude.{◌≡◌, ◌≤◌, ◌<◌, IfOk};
 ghost use Rattle.xn_model.specs.Graph.{HasNoLoop};
 ghost use Rattle.xn_genus.specs.Part.{AreSegmentsApart};
-ghost use Rattle.xn_extend.specs.Extended.{listed_web};
+ghost use Rattle.xn_reach.specs.Extended.{listed_web};
 ghost use Rattle.xn_planar.specs.Leaving.{AreLeft, IsLeastFront, IsLeftOver, IsMinimal, from_front};
 ghost use Rattle.xn_planar.specs.Planar.{HasNoFlatMap, TellsWhetherFlat};
 
 use crate::deciding::has_flat_map;
 use std::alloc::{AllocError, Global};
-use xn_extend::listed_web;
+use xn_reach::listed_web;
 use xn_fewer::laws::flat_webs;
 use xn_graph::Web;
 use xn_list::Sequence;

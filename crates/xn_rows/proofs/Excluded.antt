@@ -15,8 +15,8 @@ use Rattle.xn_kinds.specs.declared.flaws.RowFlaw.TheVariants.{Evidence as OfEvid
 use Rattle.xn_kinds.specs.declared.rows.Evidence.{Evidence}
 use Rattle.xn_kinds.specs.declared.rows.Evidence.TheVariants.{Five, ThreeThree, Extension}
 use Rattle.xn_kinds.specs.declared.rows.Row.{Row}
-use Rattle.xn_extend.specs.ListFlaw.{IsListFlaw, IsMisfit}
-use Rattle.xn_extend.proofs.Listing.{fit_from_grows, some_from_grows}
+use Rattle.xn_reach.specs.ListFlaw.{IsListFlaw, IsMisfit}
+use Rattle.xn_reach.proofs.Listing.{fit_from_grows, some_from_grows}
 use Rattle.xn_kura.proofs.Stages.{no_flaw, one_flaw}
 use Rattle.xn_orders.specs.Entries.{IsDependent, IsFirstOf, IsStray, NoEntry}
 use Rattle.xn_orders.proofs.First.{first_same}

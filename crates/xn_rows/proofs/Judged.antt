@@ -11,8 +11,8 @@ use Rattle.xn_model.specs.Lists.{at, has}
 use Rattle.xn_kinds.specs.declared.flaws.EvidenceFlaw.{EvidenceFlaw}
 use Rattle.xn_kinds.specs.declared.flaws.EvidenceFlaw.TheVariants.{Branch, Broken, Ends, Twice, Inner}
 use Rattle.xn_orders.proofs.First.{Decided, first_so}
-use Rattle.xn_extend.specs.ListFlaw.{IsListFlaw, IsMisfit, share_node}
-use Rattle.xn_extend.proofs.Listing.{grows_from_fit}
+use Rattle.xn_reach.specs.ListFlaw.{IsListFlaw, IsMisfit, share_node}
+use Rattle.xn_reach.proofs.Listing.{grows_from_fit}
 use Rattle.xn_kura.specs.Flaws.{AreBranches, IsBroken, IsFirstEvidenceFlaw, IsFirstRepeat, LeadBefore, begins_at, goes_to, path_at, wrong_branch}
 use Rattle.xn_kura.proofs.Stages.{lead_all, same_end}
 

@@ -17,7 +17,7 @@ use Rattle.xn_kinds.specs.declared.rows.Evidence.{Evidence}
 use Rattle.xn_kinds.specs.declared.rows.Evidence.TheVariants.{Five, ThreeThree, Extension}
 use Rattle.xn_kinds.specs.declared.rows.Row.{Row}
 use Rattle.xn_orders.specs.Entries.{IsDependent, IsFirstOf, IsStray, NamesFirst, NoEntry}
-use Rattle.xn_extend.specs.ListFlaw.{IsListFlaw}
+use Rattle.xn_reach.specs.ListFlaw.{IsListFlaw}
 use Rattle.xn_kura.specs.Flaws.{IsFirstEvidenceFlaw}
 use Rattle.xn_rows.specs.declared.causes.RowErr.{RowErr}
 use Rattle.xn_rows.specs.declared.causes.RowErr.TheVariants.{Flaw, Memory}

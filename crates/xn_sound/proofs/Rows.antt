@@ -2,7 +2,7 @@
 use Rattle.std.proofs.Common.{◌<◌, inl, inr, length, sym, arith}
 use Rattle.std.proofs.lemmas.Bool.{cases_eq}
 use Rattle.xn_model.specs.Graph.{edges_of}
-use Rattle.xn_extend.specs.Laws.{StuckMeansNoFlatMap}
+use Rattle.xn_reach.specs.Laws.{StuckMeansNoFlatMap}
 use Rattle.xn_kinds.specs.Row.{orders_of, value_of, values_in}
 use Rattle.xn_kinds.specs.declared.rows.Evidence.TheVariants.{Five, ThreeThree, Extension}
 use Rattle.xn_kura.specs.Laws.{FiveExcludesFlat, ThreeThreeExcludesFlat}

@@ -1,6 +1,6 @@
 use Rattle.std.proofs.Common.{ℕ, ◌+◌, List, set, arith, subst, sym}
 use Rattle.std.specs.Prelude.{Option, Some}
-use Rattle.xn_extend.proofs.Latest.{EarlierBelow, EarlierBelow-more, EarlierBelow-start}
+use Rattle.xn_reach.proofs.Latest.{EarlierBelow, EarlierBelow-more, EarlierBelow-start}
 use Rattle.xn_components.proofs.incidence.push_earlier.Goals as goal
 use Rattle.xn_components.proofs.Chains.{AreChains-all}
 

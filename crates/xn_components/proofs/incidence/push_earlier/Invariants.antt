@@ -1,4 +1,4 @@
-use Rattle.xn_extend.proofs.Latest.{EarlierBelow}
+use Rattle.xn_reach.proofs.Latest.{EarlierBelow}
 use Rattle.xn_components.proofs.incidence.push_earlier.Given as goal
 
 abbrev pub invariant-loop-d : goal.invariant-loop-d

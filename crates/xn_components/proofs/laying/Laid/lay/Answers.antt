@@ -5,7 +5,7 @@ use Rattle.xn_model.specs.Lists.{at}
 use Rattle.xn_model.specs.Map.{IsFlat}
 use Rattle.xn_genus.specs.Part.{AreSegmentsApart}
 use Rattle.xn_map.specs.Listed.{ListedMap}
-use Rattle.xn_extend.specs.Extended.{listed_web}
+use Rattle.xn_reach.specs.Extended.{listed_web}
 use Rattle.xn_components.specs.Flood.{ShareNoNode}
 use Rattle.xn_components.specs.Listing.{IsFlatMapOf, IsLaid, LaidParts}
 use Rattle.xn_components.proofs.Overlaid.{both_few, laid_both}

@@ -1,5 +1,5 @@
 use Rattle.std.proofs.Common.{◌≡◌, ℕ, ◌<◌, [], length, refl, arith}
-use Rattle.xn_extend.proofs.Ending.{apart_from_grows}
+use Rattle.xn_reach.proofs.Ending.{apart_from_grows}
 use Rattle.xn_components.proofs.Bare.{laid_bare}
 use Rattle.xn_dmp.specs.Growing.{grown_of}
 use Rattle.xn_dmp.proofs.Beginning.{begun}

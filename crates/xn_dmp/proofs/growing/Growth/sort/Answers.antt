@@ -3,7 +3,7 @@ use Rattle.std.specs.List.Sorted.{IsPermutation}
 use Rattle.std.proofs.lemmas.List.Sorted.{IsNonDecreasingBy-from_sort}
 use Rattle.xn_model.specs.Lists.{has}
 use Rattle.xn_genus.specs.Part.{AreSegmentsApart}
-use Rattle.xn_extend.specs.Extended.{listed_web}
+use Rattle.xn_reach.specs.Extended.{listed_web}
 use Rattle.xn_components.specs.Listing.{IsFlatMapOf, IsLaid}
 use Rattle.xn_dmp.specs.Growing.{Grown, IsGrown, Reorders, grown_of}
 use Rattle.xn_dmp.proofs.Placing.{count_is}

@@ -1,0 +1,13 @@
+use Rattle.std.proofs.Common.{ℕ, List, Err, ap, subst, ◌∙◌}
+use Rattle.xn_model.specs.Lists.{at}
+use Rattle.xn_map.specs.Rotation.{IsRotationFlaw}
+use Rattle.xn_map.proofs.Rotations.{flaws_are_no_maps}
+use Rattle.xn_reach.proofs.reaching.map_of.Goals as goal
+
+pub unreachable-requires-in-Err-Rotation : goal.unreachable-requires-in-Err-Rotation
+unreachable-requires-in-Err-Rotation c =
+    let web = c.args.web in
+    let d = c.in-Err-Rotation.field-0-0 in
+    let next = c.deref.ensures.value ∙ c.in_ok-next.ensures in
+    let flaw = (c.in-Err-Rotation.ensures.rotation d (ap (λ e. Err e) c.in-Err-Rotation.field-0-is)).1 in
+    flaws_are_no_maps web.nodes web.ends (at c.args.rings.now) d (subst (λ (xs : List ℕ). IsRotationFlaw web.ends (at xs) d) next flaw) c.requires.is_map

@@ -1,0 +1,4 @@
+pub mod Extended
+pub mod Laws
+pub mod ListFlaw
+pub mod Search
