@@ -6,10 +6,10 @@ ghost use Rattle.xn_components.specs.Listing.{IsLaid, IsRearranged};
 ghost use Rattle.xn_components.specs.Ranks.{AreRanks, IsRanking, Renames, ranked_dart};
 
 use std::alloc::{AllocError, Global};
-use xn_reach::listed_web;
 use xn_genus::laws::renumbering;
 use xn_graph::Web;
 use xn_map::{Map, MapErr};
+use xn_reach::listed_web;
 use xn_ring::laws::transfers;
 
 /// The map of listed segments, given by the successors of its darts, in the order of another list of the same segments.

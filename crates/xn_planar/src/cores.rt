@@ -8,8 +8,8 @@ use crate::chains::chains_of;
 use std::alloc::{AllocError, Global};
 use xn_blocks::blocks;
 use xn_dmp::{Attempt, Jam, try_embed};
-use xn_reach::listed_web;
 use xn_graph::Web;
+use xn_reach::listed_web;
 
 /// Segments at which embedding by paths gets stuck, where no chain can be left out. It begins with the block of the
 /// jam, and leaves out many chains before few, then one by one. The list rises.

@@ -9,11 +9,11 @@ use crate::renaming::evidence_within;
 use std::alloc::{AllocError, Global};
 use xn_components::{Incidence, Laid, component_from};
 use xn_dmp::{Attempt, Jam, try_embed};
-use xn_reach::laws::stuck_lists;
-use xn_reach::{Extended, reached_map};
 use xn_graph::Web;
 use xn_kinds::Evidence;
 use xn_map::Map;
+use xn_reach::laws::stuck_lists;
+use xn_reach::{Extended, reached_map};
 
 /// Whether a web has a flat map, with what comes on the way.
 #[derive(Drop)]

@@ -5,12 +5,12 @@ ghost use Rattle.xn_planar.specs.Named.{AreAllPlaces, ArePlaces, NamesPlaces, na
 ghost use Rattle.xn_planar.specs.Planar.{IsEvidenceWithin};
 
 use std::alloc::{AllocError, Global};
-use xn_reach::listed_web;
 use xn_graph::Web;
 use xn_kinds::{Evidence, Paths};
 use xn_kura::find_kind;
 use xn_kura::laws::evidence_excludes_flat_maps;
 use xn_kuratowski::laws::cores;
+use xn_reach::listed_web;
 
 /// An evidence that uses all of the listed segments, if there is one. There is if they are a core.
 pub fn evidence_within(

@@ -8,10 +8,10 @@ ghost use Rattle.xn_planar.specs.Planar.{HasNoFlatMap, TellsWhetherFlat};
 
 use crate::deciding::has_flat_map;
 use std::alloc::{AllocError, Global};
-use xn_reach::listed_web;
 use xn_fewer::laws::flat_webs;
 use xn_graph::Web;
 use xn_list::Sequence;
+use xn_reach::listed_web;
 
 /// What is left of a web where segments are left out as long as there is no flat map.
 #[derive(Drop)]

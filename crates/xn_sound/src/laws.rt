@@ -1,10 +1,10 @@
 //! Laws on rows and proof trees. Each is the contract of a function whose body only names the laws that it stands on.
 ghost use Rattle.xn_sound.specs.Laws.{AcceptedProofsBound, DrawingsLieInChildren, EvidenceExcludesFlatMaps, ExamplesAreBounded, LeavesHaveCrossings, RowsAreMet, TreesProve, ZeroMeansTheRowsOrders};
 
-use xn_reach::laws::stuck_lists;
 use xn_fewer::laws::fewer_edges;
 use xn_kinds::laws::{drawings_lie_in_states, worked_examples};
 use xn_kura::laws::evidence_excludes_flat_maps;
+use xn_reach::laws::stuck_lists;
 
 /// Where the value of a row in orders of the graph is 0, its own orders are those on its edges.
 pub fn rows_of_value_zero()
