@@ -1,7 +1,7 @@
 -- A flat map of listed segments under their own numbers, and under those of the web with each other dart alone.
-use Rattle.std.proofs.Common.{◌≡◌, ℕ, zero, suc, ◌*◌, ◌/◌, ◌<◌, ◌⊎◌, inl, inr, true, false, map, List, length, refl, sym, ap, ◌∙◌, arith}
+use Rattle.std.proofs.Common.{◌≡◌, ℕ, zero, suc, ◌*◌, ◌/◌, ◌<◌, ◌≤◌, ◌⊎◌, inl, inr, true, false, map, List, length, refl, sym, ap, ◌∙◌, arith}
 use Rattle.std.specs.List.{range_with_len}
-use Rattle.std.proofs.lemmas.Bool.{both_ways, cases_Bool}
+use Rattle.std.proofs.lemmas.Bool.{both_ways, cases_Bool, cases_lt}
 use Rattle.std.proofs.lemmas.List.{get_or_default, length-map}
 use Rattle.std.proofs.lemmas.List.FromFn.{get_or-range_with_len, length-range_with_len}
 use Rattle.std.proofs.Math.ListN.{get_or-map}
@@ -14,7 +14,6 @@ use Rattle.xn_genus.specs.Live.{IsFlatOn, IsMapOn}
 use Rattle.xn_genus.specs.Part.{AreSegmentsApart, IsPart, dart_listed, ends_listed}
 use Rattle.xn_genus.proofs.Compress.{IsMap-part, components_of_part, faces_of_part, flat_part}
 use Rattle.xn_genus.proofs.Listed.{part_listed}
-use Rattle.xn_kura.proofs.Choice.{chosen_for, is_chosen}
 use Rattle.xn_fewer.specs.Flat.{HasFlat}
 use Rattle.xn_reach.proofs.Ending.{apart_from_grows, found, keeps}
 use Rattle.xn_reach.proofs.Shown.{Shows, lift, lift_shows}
@@ -169,12 +168,21 @@ module _ (web : Graph) (list : List ℕ) (no_loop : HasNoLoop web.ends) (grows :
         let there = dart_of_live (last (e j)) (on.permutes.below (e j) d_in) (stays_live (e j) d_in (live_dart j j_in)) in
         (there.0, (there.1, there.2))
 
+    own_by : (j : ℕ) → (j < m) ⊎ (m ≤ j) → ℕ
+    own_by j (inl below) = (follower j below).0
+    own_by j (inr past) = 0
+
     own : ℕ → ℕ
-    own = chosen_for m Follows follower
+    own j = own_by j (cases_lt j m)
+
+    own_by_follows : (j : ℕ) (h : (j < m) ⊎ (m ≤ j)) → j < m → Follows j (own_by j h)
+    unfolding own_by
+    own_by_follows j (inl below) j_in = (follower j below).1
+    own_by_follows j (inr past) j_in = absurd (omega (arith, past, j_in))
 
     own_follows : (j : ℕ) → j < m → Follows j (own j)
     unfolding own
-    own_follows = is_chosen m Follows follower
+    own_follows j j_in = own_by_follows j (cases_lt j m) j_in
 
     own_in : (j : ℕ) → j < m → own j < m
     unfolding Follows

@@ -21,7 +21,7 @@ use xn_orders::{OrdersFlaw, orders_flaw, planarise};
 ///
 /// The flaws, in this order: edges that don't rise in range; entries that aren't listed, stand twice or only one way;
 /// dependent edges that cross; the flaw of the evidence; an end of an extension that is reached. The time is near linear in
-/// the size of the row and its web, but for the search of an extension, whose time may grow exponentially with its list.
+/// the size of the row and its web, but for an extension, where it is that of a planarity test of the listed segments.
 pub fn row_holds(alloc: Global, graph: &Graph, row: &Row) -> Result<(), RowErr>
     requires { HasSizes row.now }
     ensures { MatchResult result (λ _. RowHolds graph.now row.now) (IsRowCause graph.now row.now) }
