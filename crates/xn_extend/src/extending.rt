@@ -8,11 +8,11 @@ use xn_graph::Web;
 use xn_planar::{Planarity, planar};
 use xn_reach::{Extended, listed_web};
 
-/// The map to which flat insertions of the listed segments lead in the order of the list, if they reach the end: each segment
-/// but the first goes to corners of one face, or joins a new node. It fails only for want of memory.
+/// The map to which flat insertions of the listed segments lead in the order of the list, if they reach the end: each
+/// segment but the first goes to corners of one face, or joins a new node. It fails only for want of memory.
 ///
-/// The web has no loops and the list no flaw (`list_flaw`). No insertion is tried: the end is reached exactly where the web of
-/// the listed segments has a flat map (`laws::listed_webs`), which the planarity test says.
+/// The web has no loops and the list no flaw (`list_flaw`). No insertion is tried: the end is reached exactly where the
+/// web of the listed segments has a flat map (`laws::listed_webs`), which the planarity test says.
 pub fn extend(alloc: Global, web: &Web, list: &[u32]) -> Result<Extended, AllocError>
     requires no_loop { HasNoLoop web.now.ends }
     requires grows { GrowsFromFirst web.now.ends list.now }

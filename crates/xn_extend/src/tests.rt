@@ -66,7 +66,10 @@ fn reached(
 #[test]
 fn lists_with_an_end(rt: HostRuntime) -> Result<(), Fail> {
     let alloc = rt.alloc();
-    assert_eq!(rt; reached(alloc, 4, &K4, &[0, 1, 2, 3, 4, 5])?, Some((4, 6, 4)));
+    assert_eq!(rt;
+        reached(alloc, 4, &K4, &[0, 1, 2, 3, 4, 5])?,
+        Some((4, 6, 4))
+    );
     assert_eq!(rt; reached(alloc, 4, &K4, &[5, 1])?, Some((4, 2, 2)));
     let less = [0, 1, 2, 3, 4, 5, 6, 7, 8, 9, 10, 11, 12, 13, 14, 15, 16];
     assert_eq!(rt; reached(alloc, 13, &FRINGED_K5, &less)?, Some((13, 17, 6)));

@@ -23,11 +23,11 @@ pub enum Extended {
     None,
 }
 
-/// Searches for flat insertions of the listed segments in the order of the list: each segment but the first goes to corners
-/// of one face, or joins a new node. It fails only for want of memory.
+/// Searches for flat insertions of the listed segments in the order of the list: each segment but the first goes to
+/// corners of one face, or joins a new node. It fails only for want of memory.
 ///
-/// The web has no loops and the list no flaw (`list_flaw`). The search tries all corners, so its time may grow exponentially
-/// with the length of the list: `extend` of `xn_extend` answers the same by the planarity test.
+/// The web has no loops and the list no flaw (`list_flaw`). The search tries all corners, so its time may grow
+/// exponentially with the length of the list: `extend` of `xn_extend` answers the same by the planarity test.
 pub fn reached_map(alloc: Global, web: &Web, list: &[u32]) -> Result<Extended, AllocError>
     requires no_loop { HasNoLoop web.now.ends }
     requires grows { GrowsFromFirst web.now.ends list.now }
