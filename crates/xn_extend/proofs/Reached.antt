@@ -1,5 +1,5 @@
 -- Flat insertions reach the end of a list exactly where the web of its segments has a flat map.
-use Rattle.std.proofs.Common.{◌*◌, ℕ, List, length, refl, sym, subst, arith}
+use Rattle.std.proofs.Common.{ℕ, List, sym, subst, arith}
 use Rattle.xn_model.specs.Graph.{EndsIn, Graph, HasNoLoop}
 use Rattle.xn_model.specs.Insertion.{GrowsFromFirst, ReachesEnd}
 use Rattle.xn_model.specs.Lists.{at}
