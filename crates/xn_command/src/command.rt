@@ -1,17 +1,29 @@
 // The command of the words.
 ghost use Rattle.std.specs.Prelude.{◌≡◌};
 ghost use Rattle.xn_command.specs.Gives.{GivesCommand, GivesRequest};
-ghost use Rattle.xn_command.specs.Request.{with_one, with_two};
+ghost use Rattle.xn_command.specs.Request.{budget_of, solved_by, with_budget, with_one, with_two};
 ghost use Rattle.xn_command.specs.declared.command.WordsErr.TheVariants.{Memory};
 
 use crate::parse::parse;
 use clap::error::ErrorKind;
 use std::alloc::{AllocError, Global};
 use thiserror::Error;
+use xn_text::{WordNumber, word_u64};
+
+// The budget where none is given, and the greatest.
+const USUAL_BUDGET: u64 = 10_000;
+const MOST_BUDGET: u64 = 200_000;
 
 /// What the program is asked to do, with the names of the files.
 #[derive(Debug, Drop)]
 pub enum Command {
+    /// Searches for a drawing of the graph with the fewest crossings, and for a proof that there are no fewer.
+    Solve {
+        /// The name of the graph's file.
+        graph: String,
+        /// How many tree nodes may be opened, at most 200,000.
+        budget: u64,
+    },
     /// Tests everything that the answer says of the graph.
     Check {
         /// The name of the graph's file.
@@ -63,18 +75,55 @@ pub fn read_words(alloc: Global, words: &[String]) -> Result<Command, WordsErr>
         Err(error) if error.kind() == ErrorKind::OutOfMemory => return Err(WordsErr::Memory),
         Err(_) => return Err(WordsErr::Refused),
     };
-    if matches.get_str("budget").is_some() {
-        return Err(WordsErr::Refused);
-    }
     let Some(command) = matches.get_str("command") else {
         return Err(WordsErr::Refused);
     };
     let Some(first) = matches.get_str("first") else {
         return Err(WordsErr::Refused);
     };
-    match matches.get_str("second") {
-        Some(second) => with_two(alloc, command, first, second),
-        None => with_one(alloc, command, first),
+    match (matches.get_str("second"), matches.get_str("budget")) {
+        (None, Some(budget)) => with_budget(alloc, command, first, budget),
+        (None, None) => with_one(alloc, command, first),
+        (Some(second), None) => with_two(alloc, command, first, second),
+        (Some(_), Some(_)) => Err(WordsErr::Refused),
+    }
+}
+
+// The command with one operand after it, and a budget.
+fn with_budget(
+    alloc: Global,
+    command: &str,
+    first: &str,
+    budget: &str,
+) -> Result<Command, WordsErr>
+    ensures { GivesRequest (with_budget command.now first.now budget.now) result }
+{
+    match command {
+        "solve" => solve_within(alloc, first, budget_in(budget)),
+        _ => Err(WordsErr::Refused),
+    }
+}
+
+// The budget that a word spells, one of those that may be given.
+fn budget_in(word: &str) -> Option<u64>
+    ensures { result ≡ budget_of word.now }
+{
+    match word_u64(word.as_bytes()) {
+        WordNumber::Is(budget) if budget <= MOST_BUDGET => Some(budget),
+        _ => None,
+    }
+}
+
+// The command that solves a graph within a budget, if there is one.
+fn solve_within(alloc: Global, graph: &str, budget: Option<u64>) -> Result<Command, WordsErr>
+    ensures { GivesRequest (solved_by graph.now budget) result }
+{
+    match budget {
+        Some(budget) => Ok(Command::Solve {
+            graph: String::from_str(alloc, graph)?,
+            budget,
+        }),
+        None => Err(WordsErr::Refused),
     }
 }
 
@@ -83,6 +132,7 @@ fn with_one(alloc: Global, command: &str, first: &str) -> Result<Command, WordsE
     ensures { GivesRequest (with_one command.now first.now) result }
 {
     match command {
+        "solve" => solve_within(alloc, first, Some(USUAL_BUDGET)),
         "examine" => Ok(Command::Examine {
             answer: String::from_str(alloc, first)?,
         }),
