@@ -1,23 +1,27 @@
 -- What an end says of the files, and of what was written.
-use Rattle.std.specs.Prelude.{◌≡◌, ◌⊎◌, ℕ, List, [], IfSome, Option, Ok}
+use Rattle.std.specs.Prelude.{◌≡◌, ◌⊎◌, ℕ, ◌<◌, List, [], IfSome, Option, Ok}
 use Rattle.std.specs.Io.KnownBytes.{Appends}
 use Rattle.std.specs.Map.{keys_of}
 use Rattle.xn_io.specs.Causes.{Rose}
 use Rattle.xn_io.specs.Input.{Files}
 use Rattle.xn_io.specs.Sink.{TakesPart}
-use Rattle.xn_model.specs.Drawing.{IsAtMost, IsAtLeast}
+use Rattle.xn_model.specs.Drawing.{IsAtMost, IsAtLeast, IsListedDrawing, order_of}
+use Rattle.xn_model.specs.Limit.{IsBelowLimit}
+use Rattle.xn_model.specs.Orders.{crossing_count}
 use Rattle.xn_check.specs.Laws.{SpellsDrawing, SpellsFront}
 use Rattle.xn_draw.specs.declared.results.Seen.{Seen}
 use Rattle.xn_gml.specs.Meaning.{Found, graph_of_text}
 use Rattle.xn_graph.specs.Limits.{IsLimitedGraph}
+use Rattle.xn_kinds.specs.declared.answers.Answer.{Answer}
 use Rattle.xn_kinds.specs.declared.drawings.Drawing.{Drawing}
+use Rattle.xn_proof.specs.Spelling.{text_of}
 use Rattle.xn_show.specs.Text.{show_text}
 use Rattle.xn_command.specs.Request.{Request}
 use Rattle.xn_app.specs.declared.status.Limit.TheVariants.{Bytes}
 use Rattle.xn_app.specs.declared.status.Status.{Status}
 use Rattle.xn_app.specs.declared.status.Status.TheVariants.{Words, Limit, Read, Write, Memory}
 use Rattle.xn_app.specs.Files.{EndsReading}
-use Rattle.xn_app.specs.Outcome.{Outcome}
+use Rattle.xn_app.specs.Outcome.{IsAnswerFor, Outcome}
 use Rattle.xn_app.specs.Output.{accepted_line, seen_line}
 
 -- this holds of what is asked and of the files, where words ask for something and the files are told
@@ -80,3 +84,31 @@ pub record SaysDrawing (text : List ℕ) (old new : Option (List ℕ)) : Type 0 
   pub seen : Seen
   pub spelled : SpellsFront text seen
   pub written : Appends old new (seen_line seen)
+
+-- the text of a graph has this one, and an answer for it was written: a drawing with `upper` crossings, and a proof that the checker
+-- accepts, so that no drawing has fewer than `lower`
+pub record SaysAnswer (graph_text : List ℕ) (budget : ℕ) (old new : Option (List ℕ)) (answer : Answer) : Type 0 where
+  pub found : Found
+  pub graph_is : graph_of_text graph_text ≡ Ok found
+  pub is_graph : IsLimitedGraph found.graph
+  pub is_answer : IsAnswerFor found budget answer
+  pub drawing : IsListedDrawing found.graph answer.drawing.orders answer.drawing.next
+  pub crossings : answer.upper ≡ crossing_count found.graph (order_of found.graph answer.drawing.orders)
+  pub least : IsAtLeast found.graph answer.lower
+  pub written : Appends old new (text_of answer)
+
+-- it has the crossing number: no drawing has fewer crossings than its own
+pub record SaysCrossingNumber (graph_text : List ℕ) (budget : ℕ) (old new : Option (List ℕ)) : Type 0 where
+  pub answer : Answer
+  pub says : SaysAnswer graph_text budget old new answer
+  pub decided : answer.lower ≡ answer.upper
+
+-- its bounds are these two, and they differ: the whole budget is spent, and was below the node limit
+pub record SaysUndecided (graph_text : List ℕ) (budget lower upper spent : ℕ) (old new : Option (List ℕ)) : Type 0 where
+  pub answer : Answer
+  pub says : SaysAnswer graph_text budget old new answer
+  pub lower_is : answer.lower ≡ lower
+  pub upper_is : answer.upper ≡ upper
+  pub apart : lower < upper
+  pub spent_is : spent ≡ budget
+  pub below : IsBelowLimit says.found.graph budget

@@ -1,19 +1,24 @@
 -- What a command comes to: its end, and the bytes that belong to it.
-use Rattle.std.specs.Prelude.{◌≡◌, ℕ, List, [], Result, Ok, Err}
+use Rattle.std.specs.Prelude.{◌≡◌, ℕ, ◌<◌, ◌≤◌, List, [], length, Result, Ok, Err}
 use Rattle.std.specs.Map.{keys_of}
 use Rattle.xn_check.specs.Verdict.{DrawVerdict, FrontVerdict, Verdict}
 use Rattle.xn_gml.specs.Meaning.{Found, graph_of_text}
 use Rattle.xn_gml.specs.declared.errors.GmlErr.{GmlErr}
 use Rattle.xn_gml.specs.declared.errors.GmlErr.TheVariants as gml
 use Rattle.xn_io.specs.Input.{Files, bytes_of}
+use Rattle.xn_graph.specs.Limits.{IsLimitedGraph}
+use Rattle.xn_kinds.specs.declared.answers.Answer.{Answer}
 use Rattle.xn_kinds.specs.declared.flaws.Flaw.{Flaw}
+use Rattle.xn_model.specs.Graph.{Graph}
+use Rattle.xn_model.specs.Limit.{IsBelowLimit}
 use Rattle.xn_proof.specs.Refusal.{flaw_line}
+use Rattle.xn_proof.specs.Spelling.{text_of}
 use Rattle.xn_show.specs.Text.{show_text}
-use Rattle.xn_command.specs.Request.{Request, check, draw, examine}
+use Rattle.xn_command.specs.Request.{Request, check, draw, examine, solve}
 use Rattle.xn_app.specs.Output.{accepted_line, seen_line}
 use Rattle.xn_app.specs.declared.status.Limit.TheVariants.{Edges, Nodes}
 use Rattle.xn_app.specs.declared.status.Status.{Status}
-use Rattle.xn_app.specs.declared.status.Status.TheVariants.{Done, Graph, Limit, Memory, Refused}
+use Rattle.xn_app.specs.declared.status.Status.TheVariants.{Done, Graph, Limit, Memory, Refused, Undecided}
 
 -- an end, and the bytes that belong to it
 abbrev pub Outcome : Type 0
@@ -52,8 +57,33 @@ Checked text found outcome = IsByVerdict (Verdict found.graph found.loops text) 
 abbrev pub Drawn : List ℕ → Found → Outcome → Type 0
 Drawn text found outcome = IsByVerdict (DrawVerdict found.graph found.loops text) (show_text found.graph (keys_of found.ids)) outcome
 
+-- the answer is one for the graph, these loops and the budget, its verdict is that it is accepted with its bounds, and its tree is
+-- no larger than what was spent
+pub record IsAnswerFor (found : Found) (budget : ℕ) (a : Answer) : Type 0 where
+  pub graph : a.graph ≡ found.graph
+  pub loops : a.loops ≡ found.loops
+  pub budget_is : a.budget ≡ budget
+  pub verdict : Verdict found.graph found.loops (text_of a) (Ok (a.lower, a.upper))
+  pub in_budget : a.spent ≤ budget
+  pub few_nodes : 1 ≤ a.lower → length a.tree ≤ a.spent
+
+-- its bounds are one number; or they differ, and the whole budget is spent and was below the node limit
+abbrev pub EndsSearch : Graph → ℕ → Answer → Status → Type 0
+EndsSearch g budget a Done = a.lower ≡ a.upper
+EndsSearch g budget a (Undecided lower upper spent) =
+    (lower ≡ a.lower) × (upper ≡ a.upper) × (spent ≡ a.spent) × (lower < upper) × (spent ≡ budget) × IsBelowLimit g budget
+EndsSearch g budget a end = ⊥
+
+-- what the search of a graph within a budget comes to: the text of an answer for it
+pub record Searched (budget : ℕ) (found : Found) (outcome : Outcome) : Type 0 where
+  pub answer : Answer
+  pub is_answer : IsAnswerFor found budget answer
+  pub ends : EndsSearch found.graph budget answer outcome.0
+  pub output_is : outcome.1 ≡ text_of answer
+
 -- what is asked comes to this, with these files
 abbrev pub ComesTo : Files → Request → Outcome → Type 0
+ComesTo files (solve graph budget) outcome = OnGraph (graph_of_text (bytes_of files graph)) (Searched budget) outcome
 ComesTo files (examine answer) outcome = Examined (bytes_of files answer) outcome
 ComesTo files (check graph answer) outcome = OnGraph (graph_of_text (bytes_of files graph)) (Checked (bytes_of files answer)) outcome
 ComesTo files (draw graph answer) outcome = OnGraph (graph_of_text (bytes_of files graph)) (Drawn (bytes_of files answer)) outcome

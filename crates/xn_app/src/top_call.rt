@@ -3,14 +3,15 @@ ghost use Rattle.std.specs.Prelude.{◌≡◌, ◌⊎◌, List, ℕ, Some, IfOk,
 ghost use Rattle.xn_io.specs.Causes.{Rose};
 ghost use Rattle.xn_io.specs.Input.{bytes_of};
 ghost use Rattle.xn_command.specs.Gives.{request_of_command, words_request};
-ghost use Rattle.xn_command.specs.Request.{check, draw, examine};
-ghost use Rattle.xn_app.specs.Ends.{Finishes, Quits, Ran, SaysBounds, SaysDrawing, SaysShown, Told};
+ghost use Rattle.xn_command.specs.Request.{check, draw, examine, solve};
+ghost use Rattle.xn_app.specs.Ends.{Finishes, Quits, Ran, SaysBounds, SaysCrossingNumber, SaysDrawing, SaysShown, SaysUndecided, Told};
 ghost use Rattle.xn_app.specs.Files.{IsLastBegun, IsFine, Shows, answer_of};
 ghost use Rattle.xn_app.specs.Outcome.{ComesTo, Outcome};
 ghost use Rattle.xn_app.specs.Status.{IsAside, IsEarly, IsJudgedEnd, IsSilent, IsStarted, IsVerdictEnd};
 
-use crate::files::{read_both, read_file};
+use crate::files::{read_both, read_file, read_one};
 use crate::judging::{checked, drawn, examined};
+use crate::searching::searched;
 use crate::status::Status;
 use std::alloc::Global;
 use xn_check::laws::{accepted_bounds, drawn_texts, one_outcome, seen_texts};
@@ -46,6 +47,15 @@ pub fn top<I: Input, K: Sink>(alloc: Global, words: &[String], input: &mut I, ou
     ensures shown { (graph answer : List ℕ) → words_request words.now ≡ Some (draw graph answer) → result ≡ Status.Done
         → IfSome (I.told input.old)
         (λ files. SaysShown (bytes_of files graph) (bytes_of files answer) (K.taken out.old) (K.taken out.new)) }
+
+    // What `solve` means: where it is done, the crossing number was written, with its drawing and its proof; where it
+    // is undecided, both bounds, and the budget was below the node limit.
+    ensures number { (graph : List ℕ) (budget : ℕ) → words_request words.now ≡ Some (solve graph budget)
+        → result ≡ Status.Done → IfSome (I.told input.old)
+        (λ files. SaysCrossingNumber (bytes_of files graph) budget (K.taken out.old) (K.taken out.new)) }
+    ensures undecided { (graph : List ℕ) (budget lower upper spent : ℕ) → words_request words.now ≡ Some (solve graph budget)
+        → result ≡ Status.Undecided lower upper spent → IfSome (I.told input.old)
+        (λ files. SaysUndecided (bytes_of files graph) budget lower upper spent (K.taken out.old) (K.taken out.new)) }
 
     // What the input and the sink show at the end.
     ensures shows { Shows (I.told input.old) (I.name input.new) (I.faults input.old) (I.faults input.new)
@@ -91,6 +101,10 @@ fn work<I: Input>(
     ensures last { IfOk result (λ x. I.name input.new ≡ Some (answer_of (request_of_command command))) }
 {
     match command {
+        Command::Solve { graph, budget } => {
+            let read = read_one(alloc, input, graph)?;
+            Ok(searched(alloc, &read, budget)?)
+        }
         Command::Examine { answer } => {
             let text = read_file(alloc, input, answer)?;
             Ok(examined(alloc, &text)?)
