@@ -1,6 +1,5 @@
 -- An edge between two components, on the lists of a map that calls have changed.
-use Rattle.std.proofs.Common.{◌≡◌, ◌≢◌, ℕ, suc, ◌+◌, ◌*◌, ◌<◌, ◌≤◌, inl, inr, Bool, true, false, ◌||◌, eqb, List, [], ◌∷◌, ◌++◌, length, set, refl, sym, ◌∙◌, ap, subst, arith, length-append}
-use Rattle.std.specs.Prelude.{cond}
+use Rattle.std.proofs.Common.{◌≡◌, ◌≢◌, ℕ, zero, suc, ◌+◌, ◌*◌, ◌<◌, ◌≤◌, inl, inr, Bool, true, false, cond, eqb, List, [], ◌∷◌, ◌++◌, length, set, refl, sym, ◌∙◌, ap, subst, arith, length-append}
 use Rattle.std.proofs.lemmas.Bool.{cases_eq, cond-false, cond-true, eq-eqb, ne_eqb}
 use Rattle.std.proofs.lemmas.List.{get_or-set_other, get_or-set_same, length-set}
 use Rattle.xn_model.specs.Graph.{Graph, ends_at}
@@ -25,7 +24,7 @@ use Rattle.xn_insert.specs.ListedLoose.{IsLooseOf, ListedLoose, edges_in, has_da
 use Rattle.xn_insert.specs.Routed.{HasNoRoute}
 use Rattle.xn_insert.proofs.CutWalks.{none_cut}
 use Rattle.xn_insert.proofs.Ended.{edges_then}
-use Rattle.xn_insert.proofs.Grown.{all, is_graph, more_edges, u, v}
+use Rattle.xn_insert.proofs.Grown.{all, more_edges}
 
 -- where the turns are the same the drawing is the same
 straight_same : (n : ℕ) (ends : List (ℕ × ℕ)) (next turn : ℕ → ℕ) → ((x : ℕ) → x < 2 * length ends → next x < 2 * length ends) → ((x : ℕ) → x < 2 * length ends → turn x ≡ next x) →
@@ -89,5 +88,63 @@ module _ (g : Graph) (l : ListedLoose) (is : IsLooseOf g l) (e : ℕ) (e_low : e
         | inr other ↦ get_or-set_other l.walks e x (2 * length l.map.web.ends ∷ []) [] other ∙ sym (cond-false _ _ _ (ne_eqb x e other))
       ]
 
-      -- the rest: joined_loose of xn_loose by from' and to', its ends by inserts.1.ends_more, its turns by loose_by_turns and inserts.1.turns,
-      -- its walks by walk_here; edges_then with no cuts; then IsInserted, where `joined` is absurd by `none` and `apart` is inserts.0
+      abbrev edges' : List ℕ
+      edges' = all g l is e e_low new_edge
+
+      abbrev web' : Graph
+      web' = joining.web' g (edges_in l) edges' e is.further l.map.web (at l.map.next) (walk_of l.walks) is.loose (more_edges g l is e e_low new_edge) e_low not_joined from' to'
+
+      abbrev turn' : ℕ → ℕ
+      turn' = joining.turn g (edges_in l) edges' e is.further l.map.web (at l.map.next) (walk_of l.walks) is.loose (more_edges g l is e e_low new_edge) e_low not_joined from' to'
+
+      abbrev walks' : ℕ → List ℕ
+      walks' = joining.walks' g (edges_in l) edges' e is.further l.map.web (at l.map.next) (walk_of l.walks) is.loose (more_edges g l is e e_low new_edge) e_low not_joined from' to'
+
+      web_is : web' ≡ m.web
+      web_is = ap (λ k. record { nodes = k; ends = web'.ends }) (sym inserts.0) ∙ ap (λ es. record { nodes = m.web.nodes; ends = es }) (sym inserts.1.ends_more)
+
+      walks_are : walks' ≡ walk_of lists
+      walks_are = λ i x. sym (walk_here x) i
+
+      same_turns : (x : ℕ) → x < 2 * length web'.ends → at m.next x ≡ turn' x
+      same_turns x x_in =
+          let size = length-append l.map.web.ends ((node_of l.map from, node_of l.map to) ∷ []) in
+          inserts.1.turns x (omega (arith, x_in, size))
+
+      loose' : IsLoose g edges' is.further m.web (at m.next) (walk_of lists)
+      loose' =
+          let base = joining.joined_loose g (edges_in l) edges' e is.further l.map.web (at l.map.next) (walk_of l.walks) is.loose (more_edges g l is e e_low new_edge) e_low not_joined from' to' in
+          let map = subst (λ w. IsMap w.nodes w.ends (at m.next)) (sym web_is) new_map.is_map in
+          let euler = subst (λ w. MeetsEuler w.nodes w.ends (at m.next)) (sym web_is) flat in
+          let turned = loose_by_turns g edges' is.further web' turn' (at m.next) walks' same_turns map euler base in
+          let moved = subst (λ w. IsLoose g edges' is.further w (at m.next) walks') web_is turned in
+          subst (λ f. IsLoose g edges' is.further m.web (at m.next) f) walks_are moved
+
+      once' : EachMeetsOnce edges' m.web.ends (walk_of lists)
+      once' =
+          let base = joining.joined_once g (edges_in l) edges' e is.further l.map.web (at l.map.next) (walk_of l.walks) is.loose (more_edges g l is e e_low new_edge) e_low not_joined from' to' is.once in
+          let moved = subst (λ w. EachMeetsOnce edges' w.ends walks') web_is base in
+          subst (λ f. EachMeetsOnce edges' m.web.ends f) walks_are moved
+
+      pub joined_inserted : IsInserted g e l (loose_of l.nodes m lists)
+      joined_inserted =
+          let es = edges_then g l is e e_low new_edge [] (2 * length l.map.web.ends ∷ []) m lists refl (record {
+            size = length-set l.walks e (2 * length l.map.web.ends ∷ []);
+            each = λ x. walk_here x ∙ ap (cond (eqb x e) (2 * length l.map.web.ends ∷ [])) (sym (none_cut [] (λ t. nothing t) (walk_of l.walks x)));
+          }) in
+          record {
+            one_more = subst (IsOneMore (length g.ends) (edges_in l) e) (sym es) (more_edges g l is e e_low new_edge);
+            loose = record {
+              nodes = is.nodes;
+              lists = length-set l.walks e (2 * length l.map.web.ends ∷ []) ∙ is.lists;
+              further = is.further;
+              loose = subst (λ xs. IsLoose g xs is.further m.web (at m.next) (walk_of lists)) (sym es) loose';
+              once = subst (λ xs. EachMeetsOnce xs m.web.ends (walk_of lists)) (sym es) once';
+            };
+            joined = λ r least. let some = least.route in absurd (none some.0 some.1);
+            apart = λ far. inserts.0;
+          }
+        where
+          nothing : (t : ℕ) → at [] t ≡ 0
+          nothing zero = refl
+          nothing (suc t) = refl

@@ -4,6 +4,7 @@ pub mod Ended
 pub mod FaceWalks
 pub mod FacesAround
 pub mod Grown
+pub mod Joined
 pub mod Nearest
 pub mod Rounds
 pub mod Started
