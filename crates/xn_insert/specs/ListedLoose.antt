@@ -34,8 +34,8 @@ abbrev pub edges_in : ListedLoose → List ℕ
 edges_in l = filter (λ e. has_dart (walk_of l.walks e)) (range_with_len 0 (length l.walks))
 
 -- it has this many crossings
-abbrev pub HasCrossings : ListedLoose → ℕ → Type 0
-HasCrossings l c = l.map.web.nodes ≡ l.nodes + c
+abbrev pub HasFurtherNodes : ListedLoose → ℕ → Type 0
+HasFurtherNodes l c = l.map.web.nodes ≡ l.nodes + c
 
 -- a loose drawing of the edges of g that are in, in which no walk meets a node twice
 pub record IsLooseOf (g : Graph) (l : ListedLoose) : Type 0 where

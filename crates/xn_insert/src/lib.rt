@@ -11,3 +11,6 @@ mod walks;
 
 pub use loose::Loose;
 pub use walks::Walks;
+
+#[cfg(test)]
+mod tests;

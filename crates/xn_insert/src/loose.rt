@@ -2,7 +2,7 @@ ghost use Rattle.std.specs.Prelude.{◌≡◌, ◌↔◌, IfOk, IsTrue, length};
 ghost use Rattle.std.specs.List.{range_with_len};
 ghost use Rattle.xn_model.specs.Orders.{IsEdgeList};
 ghost use Rattle.xn_insert.specs.Calls.{DrawsKept, IsStarted};
-ghost use Rattle.xn_insert.specs.ListedLoose.{HasCrossings, edges_in};
+ghost use Rattle.xn_insert.specs.ListedLoose.{HasFurtherNodes, edges_in};
 
 mod inserting;
 
@@ -61,7 +61,7 @@ impl Loose {
 
     /// The number of crossings.
     pub fn crossings(&self) -> u64
-        ensures { HasCrossings self.now result }
+        ensures { HasFurtherNodes self.now result }
     {
         u64::from(self.map.web().nodes() - self.nodes)
     }
