@@ -187,7 +187,7 @@ module _ (g : Graph) (loops : ℕ) where
 
   -- ---- all lines
 
-  all_apart : (s : Said) (x : Item) (kind : FlawKind) → Agrees g loops s x → Breaks g loops s x kind → ⊥
+  pub all_apart : (s : Said) (x : Item) (kind : FlawKind) → Agrees g loops s x → Breaks g loops s x kind → ⊥
   all_apart s (item.Path p) kind agrees fails = path_apart _ (row_by_path s.rows p) kind agrees fails
   all_apart s (item.Extension l) kind agrees fails = no_row_flaw g (row_by_list s.rows l) agrees fails.0 fails.1
   all_apart s (item.Step n) kind agrees fails = step_apart s.front.lower s.rows.whole s.tree.pending s.tree.nodes n kind agrees fails

@@ -1,7 +1,7 @@
 // An answer, judged line by line.
 ghost use Rattle.std.specs.Prelude.{◌≡◌, All, IfOk};
 ghost use Rattle.xn_kinds.specs.Row.{RowHolds};
-ghost use Rattle.xn_proof.specs.Forms.{start_state};
+ghost use Rattle.xn_proof.specs.Forms.{is_end, start_state};
 ghost use Rattle.xn_check.specs.FrontFits.{FrontFits};
 ghost use Rattle.xn_check.specs.Gives.{bounds_in};
 ghost use Rattle.xn_check.specs.Judge.{HaveOneTask, IsReady, graph_kept, rules_of, said_of};
@@ -68,6 +68,13 @@ impl Judge {
         let number = self.forms.number();
         let item = self.forms.line(alloc, bytes, ended)?;
         self.item(alloc, number, item)
+    }
+
+    /// Whether the last line was the line `end`, behind which no byte may follow. No memory is taken.
+    pub fn is_at_end(&self) -> bool
+        ensures { result ≡ is_end self.now.at.1 }
+    {
+        self.forms.done()
     }
 
     /// The bounds of the answer, where it has come to its end.

@@ -3,7 +3,7 @@
 
 mod drawing;
 mod front;
-mod judge;
+pub mod judge;
 pub mod laws;
 mod refusals;
 mod row_part;

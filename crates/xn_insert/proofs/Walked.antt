@@ -1,12 +1,11 @@
 -- The walks of listed edges in their planarised graph: no walk meets a node twice.
-use Rattle.std.proofs.Common.{◌≡◌, ◌≢◌, ℕ, zero, suc, ◌+◌, ◌*◌, ◌<◌, ◌≤◌, inl, inr, true, false, eqb, List, [], ◌∷◌, length, map, refl, sym, ◌∙◌, ap, arith}
+use Rattle.std.proofs.Common.{◌≡◌, ◌≢◌, ℕ, zero, suc, ◌+◌, ◌*◌, ◌<◌, ◌≤◌, inl, inr, true, false, List, [], ◌∷◌, length, map, refl, sym, ◌∙◌, ap, arith}
 use Rattle.std.specs.List.{AllByRecursion, IsDistinct}
 use Rattle.std.specs.Prelude.{nat_eq}
 use Rattle.std.proofs.lemmas.Bool.{ne_eqb}
 use Rattle.std.proofs.lemmas.List.{length-map}
 use Rattle.xn_model.specs.Graph.{Graph, IsGraph, ends_at}
 use Rattle.xn_model.specs.Lists.{at, has}
-use Rattle.xn_model.specs.Loose.{MeetsOnce}
 use Rattle.xn_model.specs.Map.{tail_of}
 use Rattle.xn_model.specs.Orders.{IsOrders, crossings_of}
 use Rattle.xn_model.specs.Web.{crossing_node, first_segment, segments_of, web_of}

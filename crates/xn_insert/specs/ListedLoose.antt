@@ -33,7 +33,7 @@ has_dart (d ∷ darts) = true
 abbrev pub edges_in : ListedLoose → List ℕ
 edges_in l = filter (λ e. has_dart (walk_of l.walks e)) (range_with_len 0 (length l.walks))
 
--- it has this many crossings
+-- it has this many nodes beside those of the graph: its crossings
 abbrev pub HasFurtherNodes : ListedLoose → ℕ → Type 0
 HasFurtherNodes l c = l.map.web.nodes ≡ l.nodes + c
 

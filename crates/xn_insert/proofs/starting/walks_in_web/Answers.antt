@@ -1,11 +1,10 @@
-use Rattle.std.proofs.Common.{◌≡◌, ℕ, suc, ◌+◌, ◌<◌, ◌≤◌, List, length, map, set, take, vec_items, sym, ◌∙◌, ap, subst, arith}
+use Rattle.std.proofs.Common.{◌+◌, ◌<◌, length, set, vec_items, sym, ◌∙◌, ap, subst, arith}
 use Rattle.std.proofs.lemmas.List.{map-set}
 use Rattle.xn_list.specs.Lists.{lists_of}
 use Rattle.xn_model.specs.Lists.{at}
 use Rattle.xn_model.specs.Orders.{order_at}
-use Rattle.xn_loose.specs.Webs.{darts_from}
 use Rattle.xn_orders.proofs.Listed.{order_at-place}
-use Rattle.xn_insert.specs.Starting.{AreWalksUpTo, segments_along}
+use Rattle.xn_insert.specs.Starting.{AreWalksUpTo}
 use Rattle.xn_insert.proofs.Started.{few_segments, walks_more}
 use Rattle.xn_insert.proofs.starting.walks_in_web.Goals as goal
 

@@ -1,0 +1,5 @@
+pub mod Apart
+pub mod Come
+pub mod Said
+pub mod Taking
+pub mod TextLines
