@@ -6,6 +6,7 @@ pub mod Least
 pub mod Neighbours
 pub mod Pairs
 pub mod Paths
+pub mod Weighing
 pub mod Split
 pub mod Table
 pub mod Weights

@@ -6,6 +6,7 @@ mod crossings;
 mod leasts;
 mod leaves;
 mod lists;
+pub mod scales;
 mod states;
 #[cfg(test)]
 mod tests;

@@ -1,0 +1,7 @@
+//! Laws on the bound of a leaf that is weighed row by row.
+ghost use Rattle.xn_tree.specs.Scale.{TermsMove};
+
+/// One term of a row more: the least changes as that of its pair does, and then each pair weighs as by the table with the term.
+pub fn terms()
+    ensures { TermsMove }
+{}
