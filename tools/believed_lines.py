@@ -1,15 +1,18 @@
 #!/usr/bin/env python3
 """Counts the definitions that a reader of a clause must believe: all that it names, and what those name in turn.
 
-Usage: tools/believed_lines.py [--crates] FILE FUNCTION [CLAUSE]      such as crates/xn_app/src/top_call.rt top bounds
-Prints the files with their lines (no blanks, no comments), or with --crates the crates with their lines and files, then
-the sum, and how many words of the standard library are among the names. Names are followed through the `use` lines, so a name that two words share may count one too many.
+Usage: tools/believed_lines.py [--crates | --lines] FILE FUNCTION [CLAUSE]      such as crates/xn_app/src/top_call.rt top bounds
+Prints the files with their lines, or with --crates the crates with their lines and files, or with --lines the lines
+themselves, then the sum, and how many words of the standard library are among the names. Blank lines, comments and
+attributes don't count. Of a type in Rust its declaration counts, and not the types of its fields.
+Names are followed through the `use` lines, so a name that two words share may count one too many.
 """
 import os
 import re
 import sys
 
 NAME = re.compile(r"[A-Za-z_◌][\w◌'-]*")
+OWN = re.compile(r"^use crate::([\w:]+)::(\w+);", re.M)
 USE = re.compile(r"(?:ghost )?use Rattle\.(\w+)\.specs\.([\w.]+?)(?:\.\{([^}]*)\}| as (\w+));?", re.S)
 WORDS = {"abbrev", "pub", "unfoldable", "record", "data", "where", "unfolding", "if", "then", "else", "let", "in", "elim"}
 
@@ -30,7 +33,7 @@ class Spec:
     """A file of definitions: the lines of each word."""
 
     def __init__(self, path):
-        self.path, self.blocks = path, {}
+        self.path, self.blocks, self.data = path, {}, {}
         with open(path, encoding="utf-8") as file:
             text = file.read()
         self.taken, self.modules = imports(text)
@@ -50,8 +53,12 @@ class Spec:
             # (the constructors of a data stand in its block)
             for line in lines[1:]:
                 found = re.match(r"\s*(?:pub )?\|?\s*([A-Za-z]\w*)\s*:", line)
-                if found and lines[0].lstrip().startswith(("data", "pub data")):
-                    self.blocks.setdefault(found.group(1), [])
+                if found and lines[0].startswith(("data", "pub data")):
+                    self.data[found.group(1)] = name
+
+    def word(self, name):
+        """The word by which a name stands here: of a constructor its data."""
+        return name if name in self.blocks else self.data.get(name)
 
 
 class Reader:
@@ -73,8 +80,8 @@ class Reader:
         for name in NAME.findall(text):
             if name in taken:
                 self.word(*taken[name], name)
-            elif spec is not None and name in spec.blocks:
-                self.block(spec, name)
+            elif spec is not None and spec.word(name):
+                self.block(spec, spec.word(name))
 
     def word(self, crate, module, name):
         if crate == "std":
@@ -83,8 +90,8 @@ class Reader:
             self.declared(crate, module.split(".")[1:], name)
         else:
             spec = self.spec(crate, module)
-            if spec is not None and name in spec.blocks:
-                self.block(spec, name)
+            if spec is not None and spec.word(name):
+                self.block(spec, spec.word(name))
 
     def block(self, spec, name):
         if (spec.path, name) in self.seen:
@@ -103,7 +110,8 @@ class Reader:
                 with open(path, encoding="utf-8") as file:
                     found = re.search(rf"^pub (?:struct|enum) {kind}\b.*?(?:^}}|;$)", file.read(), re.S | re.M)
                 if found:
-                    self.lines.setdefault(path, []).extend(found.group(0).split("\n"))
+                    lines = [it for it in found.group(0).split("\n") if it.strip() and not it.lstrip().startswith(("//", "#["))]
+                    self.lines.setdefault(path, []).extend(lines)
 
 
 def clause_text(source, function, label):
@@ -130,17 +138,22 @@ def by_crate(lines):
 
 def main():
     words = sys.argv[1:]
-    is_by_crate = words[:1] == ["--crates"]
-    path, function, label = (words[is_by_crate:] + [None])[:3]
+    form = words.pop(0) if words[0].startswith("--") else None
+    path, function, label = (words + [None])[:3]
     with open(path, encoding="utf-8") as file:
         source = file.read()
     reader = Reader()
-    reader.follow(clause_text(source, function, label), *imports(source), None)
-    if is_by_crate:
+    taken, modules = imports(source)
+    for module, name in OWN.findall(source):
+        taken.setdefault(name, (path.split("/")[1], f"declared.{module.replace('::', '.')}"))
+    reader.follow(clause_text(source, function, label), taken, modules, None)
+    if form == "--crates":
         by_crate(reader.lines)
     else:
         for name, lines in sorted(reader.lines.items(), key=lambda it: -len(it[1])):
             print(f"{len(lines):5} {name}")
+            if form == "--lines":
+                print("\n".join(lines) + "\n")
     total = sum(len(it) for it in reader.lines.values())
     print(f"{total:5} lines of {len(reader.seen)} definitions in {len(reader.lines)} files, and {len(reader.std)} words of std")
 

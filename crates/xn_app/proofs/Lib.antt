@@ -1,4 +1,5 @@
 pub mod Ends
 pub mod Graphs
+pub mod Lines
 pub mod OneOutcome
 pub mod Outcomes

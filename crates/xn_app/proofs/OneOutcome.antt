@@ -8,14 +8,14 @@ use Rattle.xn_io.specs.Input.{Files, bytes_of}
 use Rattle.xn_kinds.specs.declared.flaws.Flaw.{Flaw}
 use Rattle.xn_command.specs.Request.{Request, check, draw, examine}
 use Rattle.xn_app.specs.Ends.{Ran, Wrote}
-use Rattle.xn_app.specs.Outcome.{Checked, ComesTo, Drawn, IsJudged, OnGraph, Outcome, outcome_of}
+use Rattle.xn_app.specs.Outcome.{Checked, ComesTo, Drawn, IsByVerdict, OnGraph, Outcome, outcome_of}
 use Rattle.xn_app.specs.Status.{IsAside}
 use Rattle.xn_app.specs.declared.status.Limit.TheVariants.{Bytes, Edges, Nodes}
 use Rattle.xn_app.specs.declared.status.Status.{Status}
 use Rattle.xn_app.specs.declared.status.Status.TheVariants.{Done, Refused, Words, Graph, Limit, Read, Write, Memory}
 
 -- one verdict leads to one outcome
-one_judged : {V : Type 0} (HasVerdict : Result V Flaw → Type 0) (text : V → List ℕ) → ((v w : Result V Flaw) → HasVerdict v → HasVerdict w → v ≡ w) → (x y : Outcome) → IsJudged HasVerdict text x → IsJudged HasVerdict text y → x ≡ y
+one_judged : {V : Type 0} (HasVerdict : Result V Flaw → Type 0) (text : V → List ℕ) → ((v w : Result V Flaw) → HasVerdict v → HasVerdict w → v ≡ w) → (x y : Outcome) → IsByVerdict HasVerdict text x → IsByVerdict HasVerdict text y → x ≡ y
 one_judged HasVerdict text one x y first second =
     first.outcome_is ∙ ap (outcome_of text) (one first.verdict second.verdict first.holds second.holds) ∙ sym second.outcome_is
 

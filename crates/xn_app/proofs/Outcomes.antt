@@ -12,18 +12,17 @@ use Rattle.xn_kinds.specs.declared.flaws.Flaw.{Flaw}
 use Rattle.xn_proof.specs.Refusal.{flaw_line}
 use Rattle.xn_command.specs.Request.{Request, check, draw, examine}
 use Rattle.xn_show.specs.Text.{show_text}
-use Rattle.xn_app.specs.Files.{IsInMemory, answer_of}
 use Rattle.xn_app.specs.Ends.{Ran, SaysBounds, SaysDrawing, SaysShown, Wrote}
-use Rattle.xn_app.specs.Outcome.{Checked, ComesTo, Drawn, Examined, IsJudged, OnGraph, Outcome, outcome_of, refused_graph}
+use Rattle.xn_app.specs.Outcome.{Checked, ComesTo, Drawn, Examined, IsByVerdict, OnGraph, Outcome, outcome_of, refused_graph}
 use Rattle.xn_app.specs.Output.{accepted_line, seen_line}
 use Rattle.xn_app.specs.declared.status.Status.{Status}
 use Rattle.xn_app.specs.declared.status.Status.TheVariants.{Done, Refused}
 use Rattle.xn_app.proofs.Graphs.{limited}
 
-pub accepted : {V : Type 0} (HasVerdict : Result V Flaw → Type 0) (text : V → List ℕ) (v : V) (output : List ℕ) → HasVerdict (Ok v) → output ≡ text v → IsJudged HasVerdict text (Done, output)
+pub accepted : {V : Type 0} (HasVerdict : Result V Flaw → Type 0) (text : V → List ℕ) (v : V) (output : List ℕ) → HasVerdict (Ok v) → output ≡ text v → IsByVerdict HasVerdict text (Done, output)
 accepted HasVerdict text v output holds is = record { verdict = Ok v; holds = holds; outcome_is = ap (λ o. (Done, o)) is }
 
-pub refused : {V : Type 0} (HasVerdict : Result V Flaw → Type 0) (text : V → List ℕ) (flaw : Flaw) (output : List ℕ) → HasVerdict (Err flaw) → output ≡ flaw_line flaw → IsJudged HasVerdict text (Refused flaw, output)
+pub refused : {V : Type 0} (HasVerdict : Result V Flaw → Type 0) (text : V → List ℕ) (flaw : Flaw) (output : List ℕ) → HasVerdict (Err flaw) → output ≡ flaw_line flaw → IsByVerdict HasVerdict text (Refused flaw, output)
 refused HasVerdict text flaw output holds is = record { verdict = Err flaw; holds = holds; outcome_is = ap (λ o. (Refused flaw, o)) is }
 
 -- ---- Done
@@ -38,23 +37,22 @@ accepted_by : {V : Type 0} (HasVerdict : Result V Flaw → Type 0) (text : V →
 accepted_by HasVerdict text output (Ok v) holds is = record { value = v; holds = holds; output_is = ap (λ (o : Outcome). o.1) is }
 accepted_by HasVerdict text output (Err flaw) holds is = let e : Done ≡ Refused flaw = ap (λ (o : Outcome). o.0) is in absurd cc
 
-was_accepted : {V : Type 0} (HasVerdict : Result V Flaw → Type 0) (text : V → List ℕ) (output : List ℕ) → IsJudged HasVerdict text (Done, output) → WasAccepted HasVerdict text output
+was_accepted : {V : Type 0} (HasVerdict : Result V Flaw → Type 0) (text : V → List ℕ) (output : List ℕ) → IsByVerdict HasVerdict text (Done, output) → WasAccepted HasVerdict text output
 was_accepted HasVerdict text output judged = accepted_by HasVerdict text output judged.verdict judged.holds judged.outcome_is
 
-says_drawing : (law : SeenWhereSpelled) (text : List ℕ) (old new : Option (List ℕ)) → IsInMemory text → Wrote (Examined text) Done old new → SaysDrawing text old new
-says_drawing law text old new short wrote =
+says_drawing : (law : SeenWhereSpelled) (text : List ℕ) (old new : Option (List ℕ)) → Wrote (Examined text) Done old new → SaysDrawing text old new
+says_drawing law text old new wrote =
     let a = was_accepted (FrontVerdict text) seen_line wrote.output wrote.comes in
-    record { seen = a.value; spelled = (law text a.value short).0 a.holds; written = subst (λ (o : List ℕ). Appends old new o) a.output_is wrote.written }
+    record { seen = a.value; spelled = (law text a.value).0 a.holds; written = subst (λ (o : List ℕ). Appends old new o) a.output_is wrote.written }
 
 -- Done where a drawing is examined
 pub examined_done : (law : SeenWhereSpelled) (told : Option Files) (answer : List ℕ) (asked : Request) (end : Status) (old new : Option (List ℕ)) → asked ≡ examine answer → end ≡ Done →
-    IfSome told (λ files. IsInMemory (bytes_of files (answer_of asked))) → IfSome told (λ files. Ran (ComesTo files asked) end old new) →
+    IfSome told (λ files. Ran (ComesTo files asked) end old new) →
     IfSome told (λ files. SaysDrawing (bytes_of files answer) old new)
-examined_done law None answer asked end old new is done short ran = tt
-examined_done law (Some files) answer asked end old new is done short ran =
+examined_done law None answer asked end old new is done ran = tt
+examined_done law (Some files) answer asked end old new is done ran =
     let ran_done = subst (λ (r : Request). Ran (ComesTo files r) Done old new) is (subst (λ s. Ran (ComesTo files asked) s old new) done ran) in
-    let small = subst (λ (r : Request). IsInMemory (bytes_of files (answer_of r))) is short in
-    says_drawing law (bytes_of files answer) old new small ran_done
+    says_drawing law (bytes_of files answer) old new ran_done
 
 not_done : (e : GmlErr) → Done ≡ refused_graph e → ⊥
 not_done gml.TooManyNodes d = cc
@@ -98,26 +96,25 @@ checked_done law (Some files) graph answer asked end old new is done ran =
     let ran_done = subst (λ (r : Request). Ran (ComesTo files r) Done old new) is (subst (λ s. Ran (ComesTo files asked) s old new) done ran) in
     says_bounds law (bytes_of files graph) (bytes_of files answer) (graph_of_text (bytes_of files graph)) old new refl ran_done
 
-says_shown : (law : DrawnWhereSpelled) (graph_text text : List ℕ) (read : Result Found GmlErr) (old new : Option (List ℕ)) → IsInMemory text →
-    graph_of_text graph_text ≡ read → Wrote (OnGraph read (Drawn text)) Done old new → SaysShown graph_text text old new
-says_shown law graph_text text (Ok found) old new short is wrote =
+says_shown : (law : DrawnWhereSpelled) (graph_text text : List ℕ) (read : Result Found GmlErr) (old new : Option (List ℕ)) → graph_of_text graph_text ≡ read →
+    Wrote (OnGraph read (Drawn text)) Done old new → SaysShown graph_text text old new
+says_shown law graph_text text (Ok found) old new is wrote =
     let a = was_accepted (DrawVerdict found.graph found.loops text) (show_text found.graph (keys_of found.ids)) wrote.output wrote.comes in
     record {
       found = found;
       graph_is = is;
       is_graph = limited graph_text found is;
       drawing = a.value;
-      spelled = (law found.graph found.loops text a.value short).0 a.holds;
+      spelled = (law found.graph found.loops text a.value).0 a.holds;
       written = subst (λ (o : List ℕ). Appends old new o) a.output_is wrote.written;
     }
-says_shown law graph_text text (Err e) old new short is wrote = absurd (done_is_no_graph e wrote.output (Drawn text) wrote.comes)
+says_shown law graph_text text (Err e) old new is wrote = absurd (done_is_no_graph e wrote.output (Drawn text) wrote.comes)
 
 -- Done where an answer is shown
 pub drawn_done : (law : DrawnWhereSpelled) (told : Option Files) (graph answer : List ℕ) (asked : Request) (end : Status) (old new : Option (List ℕ)) → asked ≡ draw graph answer → end ≡ Done →
-    IfSome told (λ files. IsInMemory (bytes_of files (answer_of asked))) → IfSome told (λ files. Ran (ComesTo files asked) end old new) →
+    IfSome told (λ files. Ran (ComesTo files asked) end old new) →
     IfSome told (λ files. SaysShown (bytes_of files graph) (bytes_of files answer) old new)
-drawn_done law None graph answer asked end old new is done short ran = tt
-drawn_done law (Some files) graph answer asked end old new is done short ran =
+drawn_done law None graph answer asked end old new is done ran = tt
+drawn_done law (Some files) graph answer asked end old new is done ran =
     let ran_done = subst (λ (r : Request). Ran (ComesTo files r) Done old new) is (subst (λ s. Ran (ComesTo files asked) s old new) done ran) in
-    let small = subst (λ (r : Request). IsInMemory (bytes_of files (answer_of r))) is short in
-    says_shown law (bytes_of files graph) (bytes_of files answer) (graph_of_text (bytes_of files graph)) old new small refl ran_done
+    says_shown law (bytes_of files graph) (bytes_of files answer) (graph_of_text (bytes_of files graph)) old new refl ran_done

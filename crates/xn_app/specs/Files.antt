@@ -1,5 +1,5 @@
 -- Reading the files of a command, and what the input shows at an end.
-use Rattle.std.specs.Prelude.{◌≡◌, ◌⊎◌, ℕ, ◌^◌, ◌<◌, ◌≤◌, Bool, true, false, List, length, Option, Some, IfSome, Result, Ok, Err, IsOk}
+use Rattle.std.specs.Prelude.{◌≡◌, ◌⊎◌, ℕ, ◌^◌, ◌<◌, ◌≤◌, Bool, true, false, List, Option, Some, IfSome, Result, Ok, Err, IsOk}
 use Rattle.xn_gml.specs.Meaning.{Found, graph_of_text}
 use Rattle.xn_gml.specs.declared.errors.GmlErr.{GmlErr}
 use Rattle.xn_io.specs.Causes.{Rose}
@@ -24,16 +24,12 @@ IsOneBegun told begun graph answer =
     (begun ≡ Some graph) ⊎ ((begun ≡ Some answer) × IfSome told (λ files. IsOk (graph_of_text (bytes_of files graph))))
 
 -- the name begun last is that of the first file, or of the second, if its turn came
-abbrev pub IsBegun : Option Files → Option (List ℕ) → Request → Type 0
-IsBegun told begun (examine answer) = begun ≡ Some answer
-IsBegun told begun (check graph answer) = IsOneBegun told begun graph answer
-IsBegun told begun (draw graph answer) = IsOneBegun told begun graph answer
+abbrev pub IsLastBegun : Option Files → Option (List ℕ) → Request → Type 0
+IsLastBegun told begun (examine answer) = begun ≡ Some answer
+IsLastBegun told begun (check graph answer) = IsOneBegun told begun graph answer
+IsLastBegun told begun (draw graph answer) = IsOneBegun told begun graph answer
 
 -- ---- what the input shows
-
--- a text that was read; none in memory is longer
-abbrev pub IsInMemory : List ℕ → Type 0
-IsInMemory text = length text < 2 ^ 63
 
 -- no call failed since the last begin, and not too many bytes were given
 pub record IsFine (failed : Bool) (got : ℕ) : Type 0 where

@@ -1,4 +1,5 @@
 pub mod Ends
+pub mod Exits
 pub mod Files
 pub mod Outcome
 pub mod Output

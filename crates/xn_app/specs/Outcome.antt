@@ -25,7 +25,7 @@ outcome_of text (Ok v) = (Done, text v)
 outcome_of text (Err flaw) = (Refused flaw, flaw_line flaw)
 
 -- an answer has a verdict, which leads to this
-pub record IsJudged {V : Type 0} (HasVerdict : Result V Flaw → Type 0) (text : V → List ℕ) (outcome : Outcome) : Type 0 where
+pub record IsByVerdict {V : Type 0} (HasVerdict : Result V Flaw → Type 0) (text : V → List ℕ) (outcome : Outcome) : Type 0 where
   pub verdict : Result V Flaw
   pub holds : HasVerdict verdict
   pub outcome_is : outcome ≡ outcome_of text verdict
@@ -44,13 +44,13 @@ OnGraph (Err e) Rest outcome = outcome ≡ (refused_graph e, [])
 
 -- what the text of an answer comes to by itself, where a graph was read, and where it is to be shown
 abbrev pub Examined : List ℕ → Outcome → Type 0
-Examined text outcome = IsJudged (FrontVerdict text) seen_line outcome
+Examined text outcome = IsByVerdict (FrontVerdict text) seen_line outcome
 
 abbrev pub Checked : List ℕ → Found → Outcome → Type 0
-Checked text found outcome = IsJudged (Verdict found.graph found.loops text) accepted_line outcome
+Checked text found outcome = IsByVerdict (Verdict found.graph found.loops text) accepted_line outcome
 
 abbrev pub Drawn : List ℕ → Found → Outcome → Type 0
-Drawn text found outcome = IsJudged (DrawVerdict found.graph found.loops text) (show_text found.graph (keys_of found.ids)) outcome
+Drawn text found outcome = IsByVerdict (DrawVerdict found.graph found.loops text) (show_text found.graph (keys_of found.ids)) outcome
 
 -- what is asked comes to this, with these files
 abbrev pub ComesTo : Files → Request → Outcome → Type 0

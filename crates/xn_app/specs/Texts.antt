@@ -1,5 +1,5 @@
 -- What is said of an end on standard error.
-use Rattle.std.specs.Prelude.{ℕ, List, [], Option, Some, None, codes}
+use Rattle.std.specs.Prelude.{ℕ, List, [], ◌∷◌, ◌++◌, Option, Some, None, codes, decimal}
 use Rattle.xn_gml.specs.declared.errors.GmlErr.{GmlErr}
 use Rattle.xn_gml.specs.declared.errors.GmlErr.TheVariants as gml
 use Rattle.xn_app.specs.declared.status.Limit.TheVariants.{Bytes, Edges, Nodes}
@@ -46,3 +46,17 @@ text_of Memory = codes "xnum: no memory"
 abbrev pub offset_of : Status → Option ℕ
 offset_of (Graph e) = graph_offset_of e
 offset_of end = None
+
+-- the digits of an offset, if there is one
+abbrev pub digits_of : Option ℕ → List ℕ
+digits_of None = []
+digits_of (Some at) = decimal at
+
+-- a line of a text and what follows it; an empty text has none
+abbrev pub line_of : List ℕ → List ℕ → List ℕ
+line_of [] more = []
+line_of (c ∷ text) more = ((c ∷ text) ++ more) ++ codes "\n"
+
+-- the line that says why a run ended so, on standard error; an end that is told on standard output has none
+abbrev pub told_line : Status → List ℕ
+told_line end = line_of (text_of end) (digits_of (offset_of end))

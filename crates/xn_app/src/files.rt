@@ -4,7 +4,7 @@ ghost use Rattle.std.specs.String.{string_bytes};
 ghost use Rattle.xn_gml.specs.ReadView.{found_in};
 ghost use Rattle.xn_io.specs.Input.{AreAllOf};
 ghost use Rattle.xn_app.specs.Status.{IsEarly};
-ghost use Rattle.xn_app.specs.Files.{AreRead, EndsReading, IsFine, IsInMemory, IsOneBegun, Shows, StopsReading};
+ghost use Rattle.xn_app.specs.Files.{AreRead, EndsReading, IsFine, IsOneBegun, Shows, StopsReading};
 
 use crate::status::Status;
 use std::alloc::Global;
@@ -17,7 +17,6 @@ const MAX_BYTES: u64 = 1 << 62;
 /// All the bytes of a file, or the end of the run without them.
 pub fn read_file<I: Input>(alloc: Global, input: &mut I, name: String) -> Result<Vec<u8>, Status>
     ensures all { IfOk result (λ text. AreAllOf (I.told input.old) (string_bytes name) text.items) }
-    ensures short { IfOk result (λ text. IsInMemory text.items) }
     ensures fine { IfOk result (λ text. IsFine (I.failed input.new) (I.got input.new)) }
     ensures ends { IfErr result EndsReading }
     ensures shows { IfErr result (Shows (I.told input.old) (I.name input.new) (I.faults input.old) (I.faults input.new)
@@ -29,8 +28,8 @@ pub fn read_file<I: Input>(alloc: Global, input: &mut I, name: String) -> Result
     Ok(read_all(alloc, input, name, MAX_BYTES)?)
 }
 
-/// The graph of one file, and all the bytes of another, which is read only where there is a graph; or the end of the run
-/// without them.
+/// The graph of one file, and all the bytes of another, which is read only where there is a graph; or the end of
+/// the run without them.
 pub fn read_both<I: Input>(
     alloc: Global,
     input: &mut I,
@@ -39,7 +38,6 @@ pub fn read_both<I: Input>(
 ) -> Result<(Read, Vec<u8>), Status>
     ensures read { IfOk result (λ x. IfSome (I.told input.old)
         (λ files. AreRead files (string_bytes graph) (string_bytes answer) (found_in x.0) x.1.items)) }
-    ensures short { IfOk result (λ x. IsInMemory x.1.items) }
     ensures ids { IfOk result (λ x. length x.0.ids.entries ≡ x.0.graph.nodes) }
     ensures fine { IfOk result (λ x. IsFine (I.failed input.new) (I.got input.new)) }
     ensures early { IfErr result IsEarly }

@@ -1,5 +1,5 @@
 // How the program ends.
-ghost use Rattle.std.specs.Prelude.{◌≡◌};
+ghost use Rattle.std.specs.Prelude.{◌≡◌, ◌≤◌, length};
 ghost use Rattle.xn_app.specs.Outcome.{refused_graph};
 ghost use Rattle.xn_app.specs.Status.{code_of, status_of_read};
 ghost use Rattle.xn_app.specs.Texts.{graph_offset_of, graph_text_of, offset_of, text_of};
@@ -59,10 +59,11 @@ impl Status {
         }
     }
 
-    /// What is said of the end on standard error, but for an offset that follows it. It is empty where the end is told on
-    /// standard output.
+    /// What is said of the end on standard error, but for an offset that follows it. It is empty where the end is
+    /// told on standard output.
     pub fn text(&self) -> &'static str
-        ensures { result.now ≡ text_of self.now }
+        ensures is { result.now ≡ text_of self.now }
+        ensures short { length result.now ≤ 50 }
     {
         match self {
             Status::Done | Status::Refused(_) => "",
@@ -90,7 +91,8 @@ impl Status {
 
 // Why a text has no graph; where that has an offset, it follows.
 fn graph_text(error: GmlErr) -> &'static str
-    ensures { result.now ≡ graph_text_of error }
+    ensures is { result.now ≡ graph_text_of error }
+    ensures short { length result.now ≤ 50 }
 {
     match error {
         GmlErr::Syntax(_) => "xnum: graph text refused: syntax at ",

@@ -5,7 +5,7 @@ ghost use Rattle.xn_io.specs.Input.{bytes_of};
 ghost use Rattle.xn_command.specs.Gives.{request_of_command, words_request};
 ghost use Rattle.xn_command.specs.Request.{check, draw, examine};
 ghost use Rattle.xn_app.specs.Ends.{Finishes, Quits, Ran, SaysBounds, SaysDrawing, SaysShown, Told};
-ghost use Rattle.xn_app.specs.Files.{IsBegun, IsFine, IsInMemory, Shows, answer_of};
+ghost use Rattle.xn_app.specs.Files.{IsLastBegun, IsFine, Shows, answer_of};
 ghost use Rattle.xn_app.specs.Outcome.{ComesTo, Outcome};
 ghost use Rattle.xn_app.specs.Status.{IsAside, IsEarly, IsJudgedEnd, IsSilent, IsStarted, IsVerdictEnd};
 
@@ -35,14 +35,14 @@ pub fn top<I: Input, K: Sink>(alloc: Global, words: &[String], input: &mut I, ou
     ensures exact { Told (words_request words.now) (I.told input.old)
         (λ asked files. (outcome : Outcome) → ComesTo files asked outcome → IsAside result ⊎ (result ≡ outcome.0)) }
 
-    // What Done means: an accepted answer, whatever it is, bounds the crossing number of its graph from both sides; what is
-    // examined or shown is a drawing.
+    // What Done means: an accepted answer, whatever it is, bounds the crossing number of its graph from both sides;
+    // what is examined or shown is a drawing.
     ensures bounds { (graph answer : List ℕ) → words_request words.now ≡ Some (check graph answer) → result ≡ Status.Done
         → IfSome (I.told input.old)
         (λ files. SaysBounds (bytes_of files graph) (K.taken out.old) (K.taken out.new)) }
     ensures drawing { (answer : List ℕ) → words_request words.now ≡ Some (examine answer) → result ≡ Status.Done
-        → IfSome (I.told input.old) (λ files. SaysDrawing (bytes_of files answer) (K.taken out.old) (K.taken out.new)) }
-
+        → IfSome (I.told input.old)
+        (λ files. SaysDrawing (bytes_of files answer) (K.taken out.old) (K.taken out.new)) }
     ensures shown { (graph answer : List ℕ) → words_request words.now ≡ Some (draw graph answer) → result ≡ Status.Done
         → IfSome (I.told input.old)
         (λ files. SaysShown (bytes_of files graph) (bytes_of files answer) (K.taken out.old) (K.taken out.new)) }
@@ -50,8 +50,10 @@ pub fn top<I: Input, K: Sink>(alloc: Global, words: &[String], input: &mut I, ou
     // What the input and the sink show at the end.
     ensures shows { Shows (I.told input.old) (I.name input.new) (I.faults input.old) (I.faults input.new)
         (I.failed input.new) (I.got input.new) result }
-    ensures begun { IfSome (words_request words.now) (λ asked. IsStarted result → IsBegun (I.told input.old) (I.name input.new) asked) }
-    ensures last { IfSome (words_request words.now) (λ asked. IsJudgedEnd result → I.name input.new ≡ Some (answer_of asked)) }
+    ensures begun { IfSome (words_request words.now)
+        (λ asked. IsStarted result → IsLastBegun (I.told input.old) (I.name input.new) asked) }
+    ensures last { IfSome (words_request words.now)
+        (λ asked. IsJudgedEnd result → I.name input.new ≡ Some (answer_of asked)) }
     ensures write { result ≡ Status.Write → Rose (K.faults out.old) (K.faults out.new) }
     ensures untouched { IsSilent result → (K.taken out.new ≡ K.taken out.old) × (K.faults out.new ≡ K.faults out.old) }
 {
@@ -78,8 +80,6 @@ fn work<I: Input>(
 ) -> Result<(Status, Vec<u8>), Status>
     ensures comes { IfOk result (λ x. IfSome (I.told input.old)
         (λ files. ComesTo files (request_of_command command) (x.0, x.1.items))) }
-    ensures short { IfOk result (λ _. IfSome (I.told input.old)
-        (λ files. IsInMemory (bytes_of files (answer_of (request_of_command command))))) }
     ensures judged { IfOk result (λ x. IsVerdictEnd x.0) }
     ensures quits { IfErr result (λ end. IfSome (I.told input.old)
         (λ files. Quits (ComesTo files (request_of_command command)) end)) }
@@ -87,7 +87,7 @@ fn work<I: Input>(
     ensures fine { IfOk result (λ x. IsFine (I.failed input.new) (I.got input.new)) }
     ensures shows { IfErr result (Shows (I.told input.old) (I.name input.new) (I.faults input.old) (I.faults input.new)
         (I.failed input.new) (I.got input.new)) }
-    ensures begun { IsBegun (I.told input.old) (I.name input.new) (request_of_command command) }
+    ensures begun { IsLastBegun (I.told input.old) (I.name input.new) (request_of_command command) }
     ensures last { IfOk result (λ x. I.name input.new ≡ Some (answer_of (request_of_command command))) }
 {
     match command {
@@ -108,7 +108,8 @@ fn work<I: Input>(
 
 // Writes the bytes that belong to an end.
 fn finish<K: Sink>(status: Status, output: &[u8], out: &mut K) -> Status
-    ensures finishes { Finishes status output.now (K.taken out.old) (K.taken out.new) (K.faults out.old) (K.faults out.new) result }
+    ensures finishes { Finishes status output.now (K.taken out.old) (K.taken out.new)
+        (K.faults out.old) (K.faults out.new) result }
 {
     match write_all(out, output) {
         Ok(()) => status,

@@ -6,14 +6,16 @@ use Rattle.xn_model.specs.Graph.{Graph, HasNoLoop}
 use Rattle.xn_model.specs.Map.{WalksTo, reverse_of, tail_of}
 use Rattle.xn_model.specs.Permutation.{iterate}
 use Rattle.xn_model.proofs.Darts.{reverse-reverse, reverse_below}
-use Rattle.xn_ring.proofs.Orbits.{iterate-add, iterate-step, reaches_step}
+use Rattle.xn_ring.proofs.Orbits.{iterate-add, reaches_step}
 use Rattle.xn_genus.proofs.Counts.{stays_alone}
+use Rattle.xn_model.proofs.Decide.{iterate-step}
+use Rattle.xn_genus.proofs.Compress.{half_reverse}
 use Rattle.xn_blocks.specs.Search.{Above, IsSearchForest}
 use Rattle.xn_blocks.proofs.Members.{In, in_here, in_later, in_cases, in_none}
 use Rattle.xn_blocks.proofs.Paths.{path_of, trail}
 use Rattle.xn_blocks.proofs.Arcs.{end_in, head, start_in, tails, tails_in, trail_cases, trail_parts}
 use Rattle.xn_blocks.proofs.Neighbours.{AreNeighbours, round_of_neighbours}
-use Rattle.xn_blocks.proofs.CycleRounds.{no_dart_loops, reverse_half, shared_of_round}
+use Rattle.xn_blocks.proofs.CycleRounds.{no_dart_loops, shared_of_round}
 
 -- ---- ways up
 
@@ -214,7 +216,7 @@ module _ (ends : List (ℕ × ℕ)) where
         t_in = e_in;
         one_node = one_node;
         differ = λ same. other (ap (λ x. x / 2) (sym same));
-        differ_turned = λ same. other (sym (ap (λ x. x / 2) same ∙ reverse_half d));
+        differ_turned = λ same. other (sym (ap (λ x. x / 2) same ∙ half_reverse d));
         between = cut.0;
         way = cut.1;
         away = λ there. elim (trail_cases ends w cut.0 y there) [

@@ -1,28 +1,17 @@
 -- Cut nodes, by the keys of the darts at a node; and lists of all numbers of which something is so.
 use Rattle.std.proofs.Common.{◌≡◌, ◌≢◌, ℕ, ◌+◌, ◌*◌, ◌/◌, ◌<◌, ◌⊎◌, inl, inr, true, eqb, List, [], ◌∷◌, ◌++◌, length, sym, ◌∙◌, ap, subst, arith}
-use Rattle.std.proofs.lemmas.Bool.{cases_eq, eq-eqb, eqb-true, or_cases, or_left, or_right}
+use Rattle.std.proofs.lemmas.Bool.{cases_eq, eqb-true, or_cases}
 use Rattle.xn_model.specs.Cycles.{IsCut}
 use Rattle.xn_model.specs.Graph.{Graph, ends_at, touches}
 use Rattle.xn_model.specs.Lists.{at}
 use Rattle.xn_model.specs.Map.{tail_of}
-use Rattle.xn_model.proofs.Darts.{cases_dart, tail-even, tail-odd}
+use Rattle.xn_model.proofs.Darts.{tail-even, tail-odd, touches_tail}
 use Rattle.xn_graph.specs.Stars.{darts_of}
 use Rattle.xn_graph.proofs.DartsOf.{darts_of-at, darts_of-place}
 use Rattle.xn_blocks.specs.Blocks.{ListsAll}
 use Rattle.xn_blocks.specs.Lows.{NameBlocks}
 use Rattle.xn_blocks.proofs.Members.{In, in_back, in_cases, in_front, in_here, in_none, in_parts}
 use Rattle.xn_blocks.proofs.Parting.{rise_more}
-
-touches_tail : (ends : List (ℕ × ℕ)) (d : ℕ) → touches (ends_at ends (d / 2)) (tail_of ends d) ≡ true
-touches_tail ends d =
-    let c = cases_dart d in
-    let p = ends_at ends (d / 2) in
-    let t = tail_of ends d in
-    let half : d / 2 ≡ c.0 = omega (arith, c.1) in
-    elim c.1 [
-      | inl even ↦ or_left (eqb p.0 t) (eqb p.1 t) (eq-eqb p.0 t (ap (λ s. (ends_at ends s).0) half ∙ sym (tail-even ends c.0) ∙ ap (tail_of ends) (sym even)))
-      | inr odd ↦ or_right (eqb p.0 t) (eqb p.1 t) (eq-eqb p.1 t (ap (λ s. (ends_at ends s).1) half ∙ sym (tail-odd ends c.0) ∙ ap (tail_of ends) (sym odd)))
-    ]
 
 -- a segment that meets v has a dart there
 dart_there : (ends : List (ℕ × ℕ)) (s v : ℕ) → s < length ends → touches (ends_at ends s) v ≡ true → (d : ℕ) × (d < 2 * length ends) × (tail_of ends d ≡ v) × (d / 2 ≡ s)

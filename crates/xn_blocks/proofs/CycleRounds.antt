@@ -6,6 +6,7 @@ use Rattle.xn_model.specs.Cycles.{AreInOneBlock, IsCycle, ShareCycle, segments_a
 use Rattle.xn_model.specs.Graph.{HasNoLoop}
 use Rattle.xn_model.specs.Map.{reverse_of, tail_of}
 use Rattle.xn_model.proofs.Darts.{cases_dart, reverse-even, reverse-odd, reverse-reverse, tail-even, tail-odd}
+use Rattle.xn_genus.proofs.Compress.{half_reverse}
 use Rattle.xn_blocks.proofs.Members.{In, in_here, in_later, in_cases, in_none, distinct_more, first_apart}
 use Rattle.xn_blocks.proofs.Paths.{trail, IsPath}
 use Rattle.xn_blocks.proofs.Arcs.{Uses, end_apart, head, none_distinct, one_distinct, tails, tails_in, trail_cases}
@@ -14,12 +15,6 @@ use Rattle.xn_blocks.proofs.Step.{IsRound, OnRound}
 use Rattle.xn_blocks.proofs.AlongCycles.{rounds_join}
 
 -- ---- darts and segments
-
-pub reverse_half : (d : ℕ) → reverse_of d / 2 ≡ d / 2
-reverse_half d = let c = cases_dart d in elim c.1 [
-  | inl even ↦ omega (arith, ap reverse_of even, reverse-even c.0)
-  | inr odd ↦ omega (arith, ap reverse_of odd, reverse-odd c.0)
-]
 
 -- the darts of one segment are a dart and its reverse
 pub half_cases : (e d : ℕ) → e / 2 ≡ d / 2 → (e ≡ d) ⊎ (e ≡ reverse_of d)
@@ -64,7 +59,7 @@ uses_from_halves ends e ds there =
 pub halves_from_uses : (ends : List (ℕ × ℕ)) (e : ℕ) (ds : List ℕ) → Uses ends e ds → In (e / 2) (segments_along ds)
 halves_from_uses ends e ds used = elim used [
   | inl there ↦ in_halves e ds there
-  | inr there ↦ let P : ℕ → Type 0 = λ z. In z (segments_along ds) in subst P (reverse_half e) (in_halves (reverse_of e) ds there)
+  | inr there ↦ let P : ℕ → Type 0 = λ z. In z (segments_along ds) in subst P (half_reverse e) (in_halves (reverse_of e) ds there)
 ]
 
 -- no dart of a web without loops ends where it begins

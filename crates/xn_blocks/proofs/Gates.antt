@@ -6,14 +6,16 @@ use Rattle.xn_model.specs.Graph.{Graph, ends_at}
 use Rattle.xn_model.specs.Map.{WalksTo, reverse_of, tail_of}
 use Rattle.xn_model.specs.Permutation.{iterate}
 use Rattle.xn_model.proofs.Darts.{reverse-reverse, reverse_below}
-use Rattle.xn_ring.proofs.Orbits.{iterate-step, reaches_step, reaches_trans}
+use Rattle.xn_ring.proofs.Orbits.{reaches_step, reaches_trans}
+use Rattle.xn_model.proofs.Decide.{iterate-step}
+use Rattle.xn_genus.proofs.Compress.{half_reverse}
 use Rattle.xn_blocks.specs.Search.{Above, later_end}
 use Rattle.xn_blocks.proofs.Members.{In, in_here, in_later}
 use Rattle.xn_blocks.proofs.Paths.{trail}
 use Rattle.xn_blocks.proofs.Arcs.{head, start_in}
 use Rattle.xn_blocks.proofs.Neighbours.{AreNeighbours}
 use Rattle.xn_blocks.proofs.AlongCycles.{carried}
-use Rattle.xn_blocks.proofs.CycleRounds.{reverse_half, round_of_shared}
+use Rattle.xn_blocks.proofs.CycleRounds.{round_of_shared}
 use Rattle.xn_blocks.proofs.Climbs.{both_above, child_towards, decide_above, first_step}
 use Rattle.xn_blocks.proofs.Searched.{IsSearched}
 use Rattle.xn_blocks.proofs.Searched as all
@@ -205,6 +207,6 @@ module _ (web : Graph) (parent number class : ℕ → ℕ) (known : IsSearched w
         let shared' = subst (λ z. ShareCycle ends ((2 * s) / 2) z) (sym (half t)) (subst (λ z. ShareCycle ends z t) (sym (half s)) shared) in
         let on = round_of_shared ends no_loops (2 * s) (2 * t) shared' in
         let Q : ℕ → Type 0 = λ d. key s ≡ key (d / 2) in
-        let there : Q (2 * t) = carried ends no_loops Q (λ d held. held ∙ ap key (sym (reverse_half d))) (λ d e near held. held ∙ neighbours_agree d e near) (2 * s) (2 * t) on (ap key (sym (half s))) in
+        let there : Q (2 * t) = carried ends no_loops Q (λ d held. held ∙ ap key (sym (half_reverse d))) (λ d e near held. held ∙ neighbours_agree d e near) (2 * s) (2 * t) on (ap key (sym (half s))) in
         there ∙ ap key (half t)
   ]

@@ -7,9 +7,9 @@ use Rattle.std.proofs.lemmas.Map.Steps.{le-length_from_below}
 use Rattle.xn_model.specs.Graph.{Graph}
 use Rattle.xn_model.specs.Lists.{at}
 use Rattle.xn_model.specs.Permutation.{iterate}
-use Rattle.xn_ring.proofs.Orbits.{iterate-step}
+use Rattle.xn_model.proofs.Decide.{iterate-step}
 use Rattle.xn_blocks.specs.Search.{Above, IsLinked}
-use Rattle.xn_blocks.specs.Growth.{AllDone, AreFound, IsAt, IsDone, IsFound, KeepsFound, Lists, far_end, with_node}
+use Rattle.xn_blocks.specs.Growth.{AllDone, AreFound, IsAt, IsDone, IsFound, KeepsFound, Lists, far_end_at, with_node}
 
 any_at : (xs : List ℕ) (i q : ℕ) → i < length xs → at xs i ≡ q → list_any (eqb q) xs ≡ true
 any_at [] i q below is = absurd (omega (arith, below))
@@ -161,7 +161,7 @@ module _ (web : Graph) (s : Lists) (found : AreFound web s) (w p : ℕ) (w_in : 
       | inl same ↦ absurd (omega (arith, low, ap (at s.next) same, found.untried w w_in new))
       | inr other ↦
           let old = was_found v v_found other in
-          let u = far_end web v i in
+          let u = far_end_at web v i in
           let both = found.compared v i old low in
           (still_found u both.0, elim both.1 [ inl up ↦ inl (above_old v u both.0 up) | inr up ↦ inr (above_old u v old up) ])
     ];

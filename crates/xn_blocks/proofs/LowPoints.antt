@@ -217,15 +217,6 @@ classed_more s (web, whole) low class i k i_in classed is =
       ];
     }
 
-pub classed_at_first : (s : Lists) → IsSomeWhole s → (low class : List ℕ) → class ≡ s.parent → AreClassed s low 0 class
-classed_at_first s (web, whole) low class same =
-    let n = nodes_are web s whole in
-    record {
-      size = ap length same;
-      below = λ v v_in. omega (arith, ap (λ l. at l v) same, parent_in web s whole v (omega (arith, v_in, n)), n);
-      classed = λ v v_in none. absurd (omega (arith, none));
-    }
-
 later_cases : (number : ℕ → ℕ) (p : ℕ × ℕ) → (later_end number p ≡ p.0) ⊎ (later_end number p ≡ p.1)
 later_cases number p = elim (cases_lt (number p.0) (number p.1)) [
   | inl less ↦ inr (cond-true (ltb (number p.0) (number p.1)) p.1 p.0 (lt-ltb (number p.0) (number p.1) less))

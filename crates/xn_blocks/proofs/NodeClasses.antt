@@ -6,9 +6,10 @@ use Rattle.xn_model.specs.Map.{reverse_of, tail_of}
 use Rattle.xn_model.proofs.Darts.{reverse-reverse, reverse_below}
 use Rattle.xn_ring.proofs.Orbits.{reaches_step}
 use Rattle.xn_genus.proofs.Counts.{stays_alone}
+use Rattle.xn_genus.proofs.Compress.{half_reverse}
 use Rattle.xn_blocks.specs.Search.{Above, PassesParent, later_end}
 use Rattle.xn_blocks.proofs.Arcs.{head}
-use Rattle.xn_blocks.proofs.CycleRounds.{in_one_block_sym, in_one_block_trans, reverse_half}
+use Rattle.xn_blocks.proofs.CycleRounds.{in_one_block_sym, in_one_block_trans}
 use Rattle.xn_blocks.proofs.Climbs.{GoesRound, both_above, goes_along, goes_back, goes_on, in_block_at}
 use Rattle.xn_blocks.proofs.Searched.{IsSearched}
 use Rattle.xn_blocks.proofs.Searched as all
@@ -75,7 +76,7 @@ module _ (web : Graph) (parent number class : ℕ → ℕ) (known : IsSearched w
         | inl tail_up ↦
             let low = less (tail_of ends d) (head ends d) (head_in d d_in) tail_up (no_loops d d_in) in
             let e : head ends d ≡ L s = sym (later_is_head d d_in low) ∙ ap L half in
-            (r, reverse_half d ∙ half, record { inside = r_in; from = e; up = subst (λ z. Up z (L s)) (sym back) (subst (λ z. Up (tail_of ends d) z) e tail_up) })
+            (r, half_reverse d ∙ half, record { inside = r_in; from = e; up = subst (λ z. Up z (L s)) (sym back) (subst (λ z. Up (tail_of ends d) z) e tail_up) })
         | inr head_up ↦
             let low = less (head ends d) (tail_of ends d) (node_in d d_in) head_up (λ same. no_loops d d_in (sym same)) in
             let e : tail_of ends d ≡ L s = sym (later_is_tail d d_in low) ∙ ap L half in
@@ -178,7 +179,7 @@ module _ (web : Graph) (parent number class : ℕ → ℕ) (known : IsSearched w
         let round : GoesRound ends (tail_of ends e) (head ends r) (head ends e) = subst (P (tail_of ends e)) (sym back) (subst (λ w. P w v) (sym two.from) (round_p e two)) in
         let e_r = together e r two.inside r_in (mine.to ∙ sym two.from) round in
         let Q : ℕ → Type 0 = λ z. AreInOneBlock ends z (e / 2) in
-        let l_e : AreInOneBlock ends (l / 2) (e / 2) = subst Q (reverse_half l) (in_one_block_sym ends (e / 2) (r / 2) e_r) in
+        let l_e : AreInOneBlock ends (l / 2) (e / 2) = subst Q (half_reverse l) (in_one_block_sym ends (e / 2) (r / 2) e_r) in
         in_one_block_trans ends known.no_loop (d / 2) (l / 2) (e / 2) (one_later_end v d l one mine.hangs) l_e
 
   -- the segments up from v are in one block with those up from k

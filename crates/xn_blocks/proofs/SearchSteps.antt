@@ -13,7 +13,7 @@ use Rattle.xn_genus.proofs.Counts.{stays_alone}
 use Rattle.xn_graph.proofs.DartsOf.{darts_before-le, darts_before-next, darts_of-at, darts_of-place}
 use Rattle.xn_blocks.specs.Search.{Above, AreComparable, IsLinked, IsSearchForest}
 use Rattle.xn_blocks.proofs.Climbs.{both_above, first_step}
-use Rattle.xn_blocks.specs.Growth.{AllDone, AreFound, Exploring, GoesOn, GoesOnAt, HasNone, IsAt, IsDone, IsFound, Lists, still_left, far_end, sum_below, with_dart, with_node}
+use Rattle.xn_blocks.specs.Growth.{AllDone, AreFound, Exploring, GoesOn, GoesOnAt, HasNone, IsAt, IsDone, IsFound, Lists, far_end_at, sum_below, with_dart, with_node}
 use Rattle.xn_blocks.proofs.Growing.{at_child, found_now, keeps_found, parent_now}
 
 -- ---- what is left
@@ -41,7 +41,7 @@ less_work m a b x y less small =
 -- ---- one more dart
 
 module _ (web : Graph) (s : Lists) (c : ℕ) (at_c : IsAt web s c) (v : ℕ) (here : IsFound web s v) (up : Above (at s.parent) v c)
-    (more : at s.next v < length (darts_of web.ends v)) (far_found : IsFound web s (far_end web v (at s.next v))) where
+    (more : at s.next v < length (darts_of web.ends v)) (far_found : IsFound web s (far_end_at web v (at s.next v))) where
   abbrev r : Lists
   r = with_dart s v
 
@@ -49,7 +49,7 @@ module _ (web : Graph) (s : Lists) (c : ℕ) (at_c : IsAt web s c) (v : ℕ) (he
   i = at s.next v
 
   abbrev w : ℕ
-  w = far_end web v i
+  w = far_end_at web v i
 
   abbrev d : ℕ
   d = at (darts_of web.ends v) i
@@ -66,7 +66,7 @@ module _ (web : Graph) (s : Lists) (c : ℕ) (at_c : IsAt web s c) (v : ℕ) (he
     | inl done ↦
         let is = darts_of-at web.ends v i more in
         let place = darts_of-place web.ends w (reverse_of d) (reverse_below (length web.ends) d is.0) refl in
-        let back : far_end web w place.0 ≡ v = ap (λ x. tail_of web.ends (reverse_of x)) place.2 ∙ ap (tail_of web.ends) (reverse-reverse d) ∙ is.1 in
+        let back : far_end_at web w place.0 ≡ v = ap (λ x. tail_of web.ends (reverse_of x)) place.2 ∙ ap (tail_of web.ends) (reverse-reverse d) ∙ is.1 in
         let both = at_c.found.compared w place.0 far_found (omega (arith, place.1, done)) in
         elim both.1 [
           | inl w_up ↦ inr (subst (λ z. Above (at s.parent) w z) back w_up)
@@ -97,7 +97,7 @@ module _ (web : Graph) (s : Lists) (c : ℕ) (at_c : IsAt web s c) (v : ℕ) (he
       | inl same ↦ elim (cases_eq j i) [
         | inr before ↦ at_c.found.compared u j u_found (omega (arith, low, ap (at r.next) same, next_here, before, ap (at s.next) same))
         | inl last ↦
-            let P : ℕ → ℕ → Type 0 = λ z k. IsFound web s (far_end web z k) × AreComparable (at s.parent) z (far_end web z k) in
+            let P : ℕ → ℕ → Type 0 = λ z k. IsFound web s (far_end_at web z k) × AreComparable (at s.parent) z (far_end_at web z k) in
             subst (λ z. P z j) (sym same) (subst (λ k. P v k) (sym last) (far_found, far_comparable))
       ]
     ];
@@ -128,7 +128,7 @@ module _ (web : Graph) (s : Lists) (c : ℕ) (at_c : IsAt web s c) (v : ℕ) (he
 
 module _ (web : Graph) (s : Lists) (v : ℕ) (at_v : IsAt web s v) where
   -- a dart to a found node
-  pub goes_past : at s.next v < length (darts_of web.ends v) → IsFound web s (far_end web v (at s.next v)) → GoesOnAt web s (with_dart s v) v v
+  pub goes_past : at s.next v < length (darts_of web.ends v) → IsFound web s (far_end_at web v (at s.next v)) → GoesOnAt web s (with_dart s v) v v
   goes_past more far_found = record {
     at_w = still_at web s v at_v v at_v.here (0, refl) more far_found;
     keeps = λ u u_found. u_found;
@@ -136,7 +136,7 @@ module _ (web : Graph) (s : Lists) (v : ℕ) (at_v : IsAt web s v) where
   }
 
   -- a dart to a new node
-  pub goes_down : (w : ℕ) → at s.next v < length (darts_of web.ends v) → w ≡ far_end web v (at s.next v) → w < web.nodes → web.nodes ≤ at s.number w
+  pub goes_down : (w : ℕ) → at s.next v < length (darts_of web.ends v) → w ≡ far_end_at web v (at s.next v) → w < web.nodes → web.nodes ≤ at s.number w
       → GoesOnAt web s (with_dart (with_node s w v) v) v w
   goes_down w more is w_in new =
       let i = at s.next v in
@@ -206,10 +206,6 @@ explored web s now t root v (Some w) before on = (
   },
 )
 
-pub less_still : (web : Graph) (now t : Lists) (v : ℕ) (o : Option ℕ) → GoesOn web now t v o → still_left web t o < still_left web now (Some v)
-less_still web now t v None on = omega arith
-less_still web now t v (Some w) on = omega (arith, on.less)
-
 -- the nodes below the root, and the root
 pub all_and : (web : Graph) (s : Lists) (root : ℕ) → ((v : ℕ) → v < root → IsFound web s v) → IsFound web s root → (v : ℕ) → v < root + 1 → IsFound web s v
 all_and web s root all here v low = elim (cases_eq v root) [
@@ -221,21 +217,6 @@ all_and web s root all here v low = elim (cases_eq v root) [
 pub none_found : (web : Graph) (s : Lists) → HasNone web s → (v : ℕ) → IsFound web s v → ⊥
 none_found web s none v found = omega (arith, found.1, none.none v found.0)
 
-pub found_at_first : (web : Graph) (s : Lists) → HasNone web s → AreFound web s
-found_at_first web s none = record {
-  parents = none.parents;
-  numbers = none.numbers;
-  nexts = none.nexts;
-  placed = λ i low. absurd (omega (arith, low, ap length none.order));
-  listed = λ v found. absurd (none_found web s none v found);
-  parent_found = λ v found. absurd (none_found web s none v found);
-  linked = λ v found up. absurd (none_found web s none v found);
-  earlier = λ v found up. absurd (none_found web s none v found);
-  tried = λ v v_in. omega (arith, none.untried v v_in);
-  untried = λ v v_in far. none.untried v v_in;
-  compared = λ v i found low. absurd (none_found web s none v found);
-}
-
 -- where all nodes are found and done, it is a forest of a search
 pub forest_from : (web : Graph) (s : Lists) → EndsIn web.nodes web.ends → AreFound web s → AllDone web s → ((v : ℕ) → v < web.nodes → IsFound web s v) → IsSearchForest web (at s.parent) (at s.number)
 forest_from web s ends_in found done all = record {
@@ -246,6 +227,6 @@ forest_from web s ends_in found done all = record {
       let v = tail_of web.ends d in
       let v_found = all v (tail_in web.nodes web.ends ends_in d d_in) in
       let place = darts_of-place web.ends v d d_in refl in
-      let is : far_end web v place.0 ≡ tail_of web.ends (reverse_of d) = ap (λ x. tail_of web.ends (reverse_of x)) place.2 in
+      let is : far_end_at web v place.0 ≡ tail_of web.ends (reverse_of d) = ap (λ x. tail_of web.ends (reverse_of x)) place.2 in
       subst (λ z. AreComparable (at s.parent) v z) is (found.compared v place.0 v_found (omega (arith, place.1, done v v_found))).1;
 }

@@ -4,10 +4,10 @@ use Rattle.std.proofs.lemmas.Bool.{cond-true, cond-false, lt-ltb, le-ltb}
 use Rattle.xn_model.specs.Graph.{EndsIn, Graph, HasNoLoop, ends_at}
 use Rattle.xn_model.specs.Map.{reverse_of, tail_of}
 use Rattle.xn_model.proofs.Darts.{cases_dart, reverse-even, reverse-odd, reverse-reverse, reverse_below, tail-even, tail-odd}
-use Rattle.xn_genus.proofs.Compress.{tail_in}
+use Rattle.xn_genus.proofs.Compress.{half_reverse, tail_in}
 use Rattle.xn_blocks.specs.Search.{Above, AreNodeClasses, IsSearchForest, later_end}
 use Rattle.xn_blocks.proofs.Arcs.{head}
-use Rattle.xn_blocks.proofs.CycleRounds.{no_dart_loops, reverse_half}
+use Rattle.xn_blocks.proofs.CycleRounds.{no_dart_loops}
 use Rattle.xn_blocks.proofs.Climbs.{GoesRound, above_in, above_less, above_most, climb}
 
 -- what is known of a search that has come to its end
@@ -79,4 +79,4 @@ module _ (web : Graph) (parent number class : ℕ → ℕ) (known : IsSearched w
   later_is_head d d_in low =
       let r = reverse_of d in
       let back : head ends r ≡ tail_of ends d = ap (tail_of ends) (reverse-reverse d) in
-      ap (λ i. later_end number (ends_at ends i)) (sym (reverse_half d)) ∙ later_is_tail r (reverse_below (length ends) d d_in) (omega (arith, low, ap number back))
+      ap (λ i. later_end number (ends_at ends i)) (sym (half_reverse d)) ∙ later_is_tail r (reverse_below (length ends) d d_in) (omega (arith, low, ap number back))

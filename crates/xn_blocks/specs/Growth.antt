@@ -19,8 +19,8 @@ abbrev pub IsFound : Graph → Lists → ℕ → Type 0
 IsFound web s v = (v < web.nodes) × (at s.number v < web.nodes)
 
 -- the node at the far end of dart i of v
-abbrev pub far_end : Graph → ℕ → ℕ → ℕ
-far_end web v i = tail_of web.ends (reverse_of (at (darts_of web.ends v) i))
+abbrev pub far_end_at : Graph → ℕ → ℕ → ℕ
+far_end_at web v i = tail_of web.ends (reverse_of (at (darts_of web.ends v) i))
 
 -- the found nodes have their places, with parents that are found, linked and earlier; the far ends of tried darts are found and comparable
 pub record AreFound (web : Graph) (s : Lists) : Type 0 where
@@ -34,7 +34,8 @@ pub record AreFound (web : Graph) (s : Lists) : Type 0 where
   pub earlier : (v : ℕ) → IsFound web s v → at s.parent v ≢ v → at s.number (at s.parent v) < at s.number v
   pub tried : (v : ℕ) → v < web.nodes → at s.next v ≤ length (darts_of web.ends v)
   pub untried : (v : ℕ) → v < web.nodes → web.nodes ≤ at s.number v → at s.next v ≡ 0
-  pub compared : (v i : ℕ) → IsFound web s v → i < at s.next v → IsFound web s (far_end web v i) × AreComparable (at s.parent) v (far_end web v i)
+  pub compared : (v i : ℕ) → IsFound web s v → i < at s.next v →
+      IsFound web s (far_end_at web v i) × AreComparable (at s.parent) v (far_end_at web v i)
 
 -- all darts of v were tried
 abbrev pub IsDone : Graph → Lists → ℕ → Type 0

@@ -1,9 +1,9 @@
 // Classes of segments by the low points of a search in depth (Hopcroft and Tarjan 1973).
-ghost use Rattle.std.specs.Prelude.{◌≡◌, ◌*◌, ◌<◌, ◌≤◌, IfOk, length};
+ghost use Rattle.std.specs.Prelude.{◌≡◌, ◌*◌, ◌<◌, IfOk, length};
 ghost use Rattle.xn_model.specs.Graph.{HasNoLoop, ends_at};
 ghost use Rattle.xn_model.specs.Lists.{at};
 ghost use Rattle.xn_blocks.specs.Growth.{IsWhole, lists_in};
-ghost use Rattle.xn_blocks.specs.Lows.{AreAllClassed, AreClassed, AreHandedUp, AreLowPoints, AreNoted, HaveClasses, IsClassAt, IsSomeWhole, NameBlocks, lowered};
+ghost use Rattle.xn_blocks.specs.Lows.{AreAllClassed, AreHandedUp, AreLowPoints, AreNoted, HaveClasses, IsClassAt, IsSomeWhole, NameBlocks, lowered};
 ghost use Rattle.xn_blocks.specs.Search.{later_end};
 
 use crate::forest::Forest;

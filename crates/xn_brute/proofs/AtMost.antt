@@ -15,16 +15,16 @@ use Rattle.xn_model.proofs.Darts.{reverse_below}
 use Rattle.xn_model.proofs.Ranges.{has-range_past, order_at_outside}
 use Rattle.xn_ring.proofs.Agreeing.{Permutes-agrees, cycle_count-agrees, iterate-agrees}
 use Rattle.xn_genus.proofs.Counts.{Permutes-face}
+use Rattle.xn_model.proofs.Has.{has-first, position_below}
 use Rattle.xn_brute.specs.Found.{CanList, SaysWithin}
 use Rattle.xn_brute.proofs.Doubled.{entries-le}
-use Rattle.xn_brute.proofs.Drawn.{has-here}
 use Rattle.xn_brute.proofs.OrdersAt.{order_of-at}
 
 -- ---- orders
 
 empty_list : (l : List ℕ) → ((x : ℕ) → has l x ≡ true → ⊥) → l ≡ []
 empty_list [] none = refl
-empty_list (y ∷ ys) none = absurd (none y (has-here y ys))
+empty_list (y ∷ ys) none = absurd (none y (has-first y ys))
 
 module _ (g : Graph) (ord : ℕ → List ℕ) (orders : IsOrders g.ends (edges_of g) ord) where
   listed_at : (e : ℕ) → order_of g (map ord (edges_of g)) e ≡ ord e
@@ -58,13 +58,6 @@ length-segments g pairs ord e = omega (
   length-through (ends_at g.ends e).0 (map (crossing_node g.nodes pairs e) (ord e)) (ends_at g.ends e).1,
   length-map (ord e) (crossing_node g.nodes pairs e),
 )
-
-position_below : (l : List ℕ) (x : ℕ) → has l x ≡ true → position_in l x < length l
-position_below [] x h = absurd (both_ways false refl h)
-position_below (y ∷ ys) x h = elim (cases_Bool (eqb y x)) [
-  | inl here ↦ rw here (omega arith)
-  | inr other ↦ let later : has ys x ≡ true = rw other at h in let low = position_below ys x later in rw other (omega (arith, low))
-]
 
 segment_below : (g : Graph) (pairs : List (ℕ × ℕ)) (ord : ℕ → List ℕ) (es : List ℕ) (e : ℕ) → has es e ≡ true →
     first_segment es ord e + length (ord e) < length (flat_map (segments_of g pairs ord) es)

@@ -6,9 +6,10 @@ use Rattle.std.proofs.lemmas.List.Elements.{filter-append}
 use Rattle.xn_model.specs.Graph.{Graph, each_two, edges_of, ends_at, independent, touches}
 use Rattle.xn_model.specs.Lists.{has, one_if, total}
 use Rattle.xn_model.specs.Orders.{IsOrders, crossing_count, crossings_of}
-use Rattle.xn_ring.proofs.Counting.{same_tests}
+use Rattle.xn_model.proofs.Tests.{not_true, same_tests}
+use Rattle.xn_model.proofs.Has.{has-first}
 use Rattle.xn_brute.specs.Drawings.{is_distinct}
-use Rattle.xn_brute.proofs.Drawn.{has-here, has-later, not_true, test_from_distinct}
+use Rattle.xn_brute.proofs.Drawn.{has-later, test_from_distinct}
 
 -- ---- sums
 
@@ -52,7 +53,7 @@ length-le_met : (l es : List ℕ) → is_distinct l ≡ true → ((x : ℕ) → 
 length-le_met [] es distinct inside = omega arith
 length-le_met (x ∷ l) es distinct inside =
     let parts : (not (has l x) ≡ true) × (is_distinct l ≡ true) = and_parts _ _ distinct in
-    omega (arith, length-le_met l es parts.1 (λ y h. inside y (has-later x y l h)), one_more_met x l es (not_true _ parts.0) (inside x (has-here x l)))
+    omega (arith, length-le_met l es parts.1 (λ y h. inside y (has-later x y l h)), one_more_met x l es (not_true _ parts.0) (inside x (has-first x l)))
 
 -- ---- the number of crossings
 

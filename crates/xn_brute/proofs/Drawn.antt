@@ -2,7 +2,7 @@
 use Rattle.std.proofs.Common.{◌≡◌, ℕ, ◌+◌, ◌<◌, inl, inr, Bool, true, false, not, ◌&&◌, ◌||◌, eqb, List, [], ◌∷◌, length, refl, sym, ap, ◌∙◌, subst, arith, get_or, ◌≤◌}
 use Rattle.std.specs.List.{AllByRecursion, IsDistinct, flat_map, list_all, list_any, range_with_len}
 use Rattle.std.specs.Prelude.{nat_eq, nat_lt}
-use Rattle.std.proofs.lemmas.Bool.{and_parts, and_from, both_ways, cases_Bool, cases_eq, cases_lt, eq-eqb, eqb-true, le-ltb, lt-ltb, ne_eqb, or_cases}
+use Rattle.std.proofs.lemmas.Bool.{and_parts, and_from, both_ways, cases_Bool, cases_lt, eq-eqb, eqb-true, le-ltb, lt-ltb, or_cases}
 use Rattle.std.proofs.lemmas.List.{get_or_default}
 use Rattle.std.proofs.lemmas.Map.Steps.{length-le_from_distinct_below}
 use Rattle.xn_model.specs.Drawing.{CrossesAt, IsListedDrawing, order_of}
@@ -12,6 +12,8 @@ use Rattle.xn_model.specs.Orders.{IsOrders, crossings_of}
 use Rattle.xn_model.specs.Web.{segments_of, web_of}
 use Rattle.xn_graph.specs.Limits.{graph_of}
 use Rattle.xn_model.proofs.Ranges.{edge_list, has-range_past, order_at_outside}
+use Rattle.xn_model.proofs.Tests.{eqb-flip, not_true}
+use Rattle.xn_model.proofs.Has.{has-first, unlike_each}
 use Rattle.xn_brute.proofs.OrdersAt.{order_of-at}
 use Rattle.xn_brute.specs.Drawings.{AllCross, AreOrders, AreShort, IsListedFlatMap, crosses_at, is_distinct, is_entry}
 
@@ -26,35 +28,12 @@ all_has p (y ∷ ys) all x h =
       | inr later ↦ all_has p ys parts.1 x later
     ]
 
-pub has-here : (x : ℕ) (xs : List ℕ) → has (x ∷ xs) x ≡ true
-has-here x xs = rw (eq-eqb x x refl) refl
-
 pub has-later : (y x : ℕ) (xs : List ℕ) → has xs x ≡ true → has (y ∷ xs) x ≡ true
 has-later y x xs h = elim (cases_Bool (eqb y x)) [ inl here ↦ rw here refl | inr other ↦ rw other h ]
 
 all_from_has : (p : ℕ → Bool) (xs : List ℕ) → ((x : ℕ) → has xs x ≡ true → p x ≡ true) → list_all p xs ≡ true
 all_from_has p [] each = refl
-all_from_has p (y ∷ ys) each = and_from _ _ (each y (has-here y ys)) (all_from_has p ys (λ x h. each x (has-later y x ys h)))
-
-eqb-flip : (x y : ℕ) → eqb x y ≡ eqb y x
-eqb-flip x y = elim (cases_eq x y) [
-  | inl same ↦ eq-eqb x y same ∙ sym (eq-eqb y x (sym same))
-  | inr differ ↦ ne_eqb x y differ ∙ sym (ne_eqb y x (λ same. differ (sym same)))
-]
-
-neither : (a b : Bool) → (a || b) ≡ false → (a ≡ false) × (b ≡ false)
-neither true b h = absurd (cc)
-neither false b h = (refl, h)
-
-pub not_true : (b : Bool) → not b ≡ true → b ≡ false
-not_true true h = absurd (both_ways false refl h)
-not_true false h = refl
-
-unlike_each : (x : ℕ) (xs : List ℕ) → has xs x ≡ false → AllByRecursion (λ y. nat_eq x y ≡ false) xs
-unlike_each x [] out = tt
-unlike_each x (y ∷ ys) out =
-    let parts : (eqb y x ≡ false) × (has ys x ≡ false) = neither _ _ out in
-    (eqb-flip x y ∙ parts.0, unlike_each x ys parts.1)
+all_from_has p (y ∷ ys) each = and_from _ _ (each y (has-first y ys)) (all_from_has p ys (λ x h. each x (has-later y x ys h)))
 
 out_of_unlike : (x : ℕ) (xs : List ℕ) → AllByRecursion (λ y. nat_eq x y ≡ false) xs → has xs x ≡ false
 out_of_unlike x [] each = refl

@@ -11,16 +11,13 @@ use Rattle.xn_kinds.specs.State.{InBox, State}
 use Rattle.xn_kinds.specs.declared.rows.Row.{Row}
 use Rattle.xn_kinds.specs.declared.trees.Var.{Var}
 use Rattle.xn_kinds.specs.declared.trees.Var.TheVariants.{Cross, Before}
+use Rattle.xn_model.proofs.Tests.{one_if-le}
 use Rattle.xn_brute.specs.Known.{FitsKnown, given_by, is_same, known_in, order_in, value_at}
 use Rattle.xn_brute.proofs.Unknown.{IsStep, same_of_test}
 
 -- what a value is of a variable of which this is known
 abbrev Fits : Option Bool → ℕ → Type 0
 Fits o n = MatchOption o (n ≤ 1) (λ is. n ≡ one_if is)
-
-one_if-le : (b : Bool) → one_if b ≤ 1
-one_if-le true = omega arith
-one_if-le false = omega arith
 
 bit_cases : (n : ℕ) → n ≤ 1 → (n ≡ 0) ⊎ (n ≡ 1)
 bit_cases n small = elim (cases_eq n 0) [ inl is_zero ↦ inl is_zero | inr above ↦ inr (omega (arith, small, above)) ]

@@ -1,28 +1,21 @@
 -- Flat insertions depend on no more than what follows each dart of the web.
-use Rattle.std.proofs.Common.{◌≡◌, ℕ, zero, suc, ◌+◌, ◌*◌, ◌/◌, ◌<◌, inl, inr, true, false, eqb, List, [], ◌∷◌, length, refl, sym, ap, ◌∙◌, subst, arith}
-use Rattle.std.specs.Prelude.{All}
-use Rattle.std.proofs.lemmas.Bool.{both_ways, cases_eq, eqb-true, or_cases}
+use Rattle.std.proofs.Common.{◌≡◌, ℕ, zero, suc, ◌+◌, ◌*◌, ◌/◌, ◌<◌, inl, inr, List, [], ◌∷◌, length, refl, sym, ap, ◌∙◌, arith}
+use Rattle.std.proofs.lemmas.Bool.{cases_eq}
 use Rattle.xn_model.specs.Graph.{Graph}
 use Rattle.xn_model.specs.Insertion.{CutsFace, FlatInsertion, HangsAt, IsOldCorner, StandsAfter}
-use Rattle.xn_model.specs.Lists.{at, has}
+use Rattle.xn_model.specs.Lists.{at}
 use Rattle.xn_model.specs.Map.{face_step, reverse_of}
 use Rattle.xn_model.specs.Permutation.{Reaches, iterate}
 use Rattle.xn_model.proofs.Darts.{reverse_below}
+use Rattle.xn_model.proofs.Has.{has-all}
 use Rattle.xn_brute.specs.Growth.{CanExtend}
 use Rattle.xn_brute.specs.Insertions.{AreSegments, IsListing}
 use Rattle.xn_brute.proofs.Walks.{iterate_below}
 
-pub All-at : (P : ℕ → Type 0) (xs : List ℕ) → All P xs → (x : ℕ) → has xs x ≡ true → P x
-All-at P [] all x h = absurd (both_ways false refl h)
-All-at P (y ∷ ys) all x h = elim (or_cases (eqb y x) (has ys x) h) [
-  | inl here ↦ subst P (eqb-true y x here) (all 0 0 (omega arith))
-  | inr later ↦ All-at P ys (λ i d low. all (suc i) d (omega (arith, low))) x later
-]
-
 -- a corner is after a dart of the web
 pub corner_below : (web : Graph) (done : List ℕ) → AreSegments web done → (d c : ℕ) → IsOldCorner web.ends done d c → c < 2 * length web.ends
 corner_below web done segments d c corner =
-    let low = All-at (λ s. s < length web.ends) done segments (c / 2) corner.in_map in omega (arith, low)
+    let low = has-all (λ s. s < length web.ends) done segments (c / 2) corner.in_map in omega (arith, low)
 
 -- two rotations in which d stands after c are the same
 pub stands_same : (n d c : ℕ) (before one other : ℕ → ℕ) → StandsAfter n d c before one → StandsAfter n d c before other → (x : ℕ) → x < n → one x ≡ other x

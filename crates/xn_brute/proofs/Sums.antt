@@ -12,9 +12,6 @@ use Rattle.xn_kinds.specs.Row.{Values}
 use Rattle.xn_kinds.specs.declared.rows.Row.{Row}
 use Rattle.xn_brute.specs.Leaf.{independent_part, pair_part}
 
-pub total-drop : {A : Type 0} (f : A → ℕ) (xs : List A) (i : ℕ) (d : A) → i < length xs → total f (drop i xs) ≡ f (get_or xs i d) + total f (drop (i + 1) xs)
-total-drop f xs i d low = rw (add-one, drop-cons xs i d) refl
-
 pub total_ℤ-drop : {A : Type 0} (f : A → ℤ) (xs : List A) (i : ℕ) (d : A) → i < length xs → total_ℤ f (drop i xs) ≡ f (get_or xs i d) +ℤ total_ℤ f (drop (i + 1) xs)
 total_ℤ-drop f xs i d low = rw (add-one, drop-cons xs i d) refl
 
@@ -26,9 +23,6 @@ total-append f (x ∷ xs) ys = omega (arith, total-append f xs ys)
 abbrev pub each_pair : (ℕ → ℕ → ℕ) → List ℕ → ℕ
 each_pair h [] = 0
 each_pair h (e ∷ es) = total (h e) es + each_pair h es
-
-pub each_pair-drop : (h : ℕ → ℕ → ℕ) (xs : List ℕ) (i : ℕ) → i < length xs → each_pair h (drop i xs) ≡ total (h (get_or xs i 0)) (drop (i + 1) xs) + each_pair h (drop (i + 1) xs)
-each_pair-drop h xs i low = rw (add-one, drop-cons xs i 0) refl
 
 module _ (g : Graph) (row : Row) (v : Values) where
   of_one : (e : ℕ) (es : List ℕ) → total (pair_part row v) (filter (λ p. independent g.ends p.0 p.1) (map (λ f. (e, f)) es)) ≡ total (independent_part g row v e) es

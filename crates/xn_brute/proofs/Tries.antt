@@ -1,13 +1,14 @@
 -- The steps of the search for drawings.
-use Rattle.std.proofs.Common.{◌≡◌, ℕ, suc, ◌+◌, ◌-◌, ◌*◌, ◌<◌, ◌≤◌, ◌⊎◌, inl, inr, true, false, not, eqb, List, [], ◌∷◌, ◌++◌, length, get_or, refl, sym, ap, ◌∙◌, subst, arith, length-append, append_assoc}
-use Rattle.std.proofs.lemmas.Bool.{and_from, both_ways, cases_Bool, eq-eqb, eqb-true, or_cases}
+use Rattle.std.proofs.Common.{◌≡◌, ℕ, ◌+◌, ◌-◌, ◌*◌, ◌<◌, ◌≤◌, ◌⊎◌, inl, inr, true, not, List, [], ◌∷◌, ◌++◌, length, get_or, sym, ap, ◌∙◌, subst, arith, length-append, append_assoc}
+use Rattle.std.proofs.lemmas.Bool.{and_from, both_ways, cases_Bool, eq-eqb}
 use Rattle.std.proofs.lemmas.List.{append-nil, get_or-append-add, get_or_append_left, nil_from_length}
 use Rattle.xn_model.specs.Drawing.{IsListedDrawing, drawn_web, order_of}
 use Rattle.xn_model.specs.Graph.{Graph}
 use Rattle.xn_model.specs.Lists.{at, has, total}
 use Rattle.xn_model.specs.Map.{tail_of}
+use Rattle.xn_model.proofs.Has.{has-first, place_of}
 use Rattle.xn_brute.specs.Found.{AreDrawn, CanCross, CanList, CanTurn, may_lead}
-use Rattle.xn_brute.proofs.Drawn.{has-here, has-later, low_edge}
+use Rattle.xn_brute.proofs.Drawn.{has-later, low_edge}
 use Rattle.xn_brute.proofs.OrdersAt.{order_of-at}
 
 -- ---- rotations
@@ -29,14 +30,6 @@ pub record LeadsTo (g : Graph) (lists : List (List ℕ)) (turns : List ℕ) (d :
   pub below : d < 2 * length (drawn_web g lists).ends
   pub may : may_lead (drawn_web g lists).ends turns d ≡ true
   pub can : CanTurn g lists (turns ++ d ∷ [])
-
--- the place of an element
-place_of : (xs : List ℕ) (x : ℕ) → has xs x ≡ true → (i : ℕ) × (i < length xs) × (at xs i ≡ x)
-place_of [] x h = absurd (both_ways false refl h)
-place_of (y ∷ ys) x h = elim (or_cases (eqb y x) (has ys x) h) [
-  | inl here ↦ (0, omega arith, eqb-true y x here)
-  | inr later ↦ let p = place_of ys x later in (suc p.0, omega (arith, p.1), p.2)
-]
 
 pub next_turn : (g : Graph) (lists : List (List ℕ)) (turns : List ℕ) → length turns < 2 * length (drawn_web g lists).ends → CanTurn g lists turns → (d : ℕ) × LeadsTo g lists turns d
 next_turn g lists turns lacks can = go can.rest can.drawing where
@@ -107,7 +100,7 @@ module _ (g : Graph) (k left : ℕ) (lists : List (List ℕ)) where
     pub can : CanCross g k (left - 1) lists (list ++ f ∷ [])
 
 has-middle : (xs : List ℕ) (y : ℕ) (ys : List ℕ) → has (xs ++ y ∷ ys) y ≡ true
-has-middle [] y ys = has-here y ys
+has-middle [] y ys = has-first y ys
 has-middle (x ∷ xs) y ys = has-later x y (xs ++ y ∷ ys) (has-middle xs y ys)
 
 pub ways_on : (g : Graph) (k left : ℕ) (lists : List (List ℕ)) (list : List ℕ) → length lists < length g.ends → CanCross g k left lists list →

@@ -1,14 +1,11 @@
 -- A walk comes to each number that it meets within its first n steps, where all numbers are below n.
-use Rattle.std.proofs.Common.{◌≡◌, ℕ, zero, suc, ◌+◌, ◌-◌, ◌<◌, inl, inr, true, false, eqb, length, refl, sym, ◌∙◌, ap, arith}
+use Rattle.std.proofs.Common.{◌≡◌, ℕ, zero, suc, ◌+◌, ◌-◌, ◌<◌, inl, inr, true, false, eqb, refl, sym, ◌∙◌, ap, arith}
 use Rattle.std.specs.List.{list_any, AllByRecursion, IsDistinct}
 use Rattle.std.proofs.lemmas.Bool.{both_ways, eq-eqb, eqb-false, eqb-true, ne_eqb, or_cases}
 use Rattle.std.proofs.lemmas.Map.Steps.{length-le_from_distinct_below}
 use Rattle.xn_model.specs.Permutation.{iterate, walk}
-use Rattle.xn_ring.proofs.Orbits.{first_below, iterate-add, iterate-step}
-
-length-walk : (f : ℕ → ℕ) (k d : ℕ) → length (walk f k d) ≡ k
-length-walk f zero d = refl
-length-walk f (suc k) d = ap suc (length-walk f k (f d))
+use Rattle.xn_ring.proofs.Orbits.{first_below, iterate-add}
+use Rattle.xn_model.proofs.Decide.{iterate-step, length-walk}
 
 module _ (n : ℕ) (f : ℕ → ℕ) (closed : (d : ℕ) → d < n → f d < n) where
   pub iterate_below : (k d : ℕ) → d < n → iterate f k d < n

@@ -64,5 +64,5 @@ abbrev pub IsDrawingOf : Graph → Drawing → Type 0
 IsDrawingOf g drawing = IsListedDrawing g drawing.orders drawing.next
 
 -- the lists of a drawing as a function
-abbrev pub order_in : Graph → Drawing → ℕ → List ℕ
-order_in g drawing = order_of g drawing.orders
+abbrev pub orders_in : Graph → Drawing → ℕ → List ℕ
+orders_in g drawing = order_of g drawing.orders

@@ -4,7 +4,7 @@ ghost use Rattle.xn_model.specs.Graph.{edges_of};
 ghost use Rattle.xn_model.specs.Lists.{at};
 ghost use Rattle.xn_model.specs.Web.{first_segment};
 ghost use Rattle.xn_graph.specs.Limits.{graph_of};
-ghost use Rattle.xn_brute.specs.Drawings.{AllCross, AreShort, IsDrawingOf, IsListedFlatMap, cross_along, crosses_at, order_in};
+ghost use Rattle.xn_brute.specs.Drawings.{AllCross, AreShort, IsDrawingOf, IsListedFlatMap, cross_along, crosses_at, orders_in};
 
 use crate::lists::{at, numbers, position_in};
 use crate::orders::{are_orders, are_short, order};
@@ -121,7 +121,7 @@ fn crosses_at(graph: &Graph, drawing: &Drawing, edges: &[u32], e: u32, f: u32) -
     requires edges { edges.now ≡ edges_of graph.now }
     requires few { length edges.now ≤ 1000 }
     requires short { AreShort drawing.now.orders }
-    ensures { result ≡ crosses_at edges.now (order_in graph.now drawing.now) (at drawing.now.next) e f }
+    ensures { result ≡ crosses_at edges.now (orders_in graph.now drawing.now) (at drawing.now.next) e f }
 {
     let next = drawing.next.as_slice();
     let before = first_segment(graph, &drawing.orders, edges, e)
@@ -135,7 +135,7 @@ fn cross_along(graph: &Graph, drawing: &Drawing, edges: &[u32], e: u32) -> bool
     requires edges { edges.now ≡ edges_of graph.now }
     requires few { length edges.now ≤ 1000 }
     requires short { AreShort drawing.now.orders }
-    ensures { result ≡ cross_along edges.now (order_in graph.now drawing.now) (at drawing.now.next) e }
+    ensures { result ≡ cross_along edges.now (orders_in graph.now drawing.now) (at drawing.now.next) e }
 {
     let list = order(graph, &drawing.orders, e);
     list.iter()
@@ -147,7 +147,7 @@ fn all_cross(graph: &Graph, drawing: &Drawing, edges: &[u32]) -> bool
     requires edges { edges.now ≡ edges_of graph.now }
     requires few { length edges.now ≤ 1000 }
     requires short { AreShort drawing.now.orders }
-    ensures { IsTrue result ↔ AllCross graph.now (order_in graph.now drawing.now) (at drawing.now.next) }
+    ensures { IsTrue result ↔ AllCross graph.now (orders_in graph.now drawing.now) (at drawing.now.next) }
 {
     for e in 0..graph.edges() {
         if !cross_along(graph, drawing, edges, e) {

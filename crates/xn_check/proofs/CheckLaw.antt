@@ -1,5 +1,5 @@
 -- The verdict in the words of the answer.
-use Rattle.std.proofs.Common.{◌≡◌, ℕ, ◌^◌, ◌<◌, List, [], ◌∷◌, ◌++◌, length, map, Ok, sym, subst, ap, ◌∙◌, append_assoc}
+use Rattle.std.proofs.Common.{◌≡◌, ℕ, List, [], ◌∷◌, ◌++◌, length, map, Ok, sym, subst, ap, ◌∙◌, append_assoc}
 use Rattle.std.specs.List.{flat_map}
 use Rattle.xn_model.specs.Graph.{Graph}
 use Rattle.xn_kinds.specs.Tree.{Accepts}
@@ -116,10 +116,10 @@ module _ (g : Graph) (loops : ℕ) (a : Answer) (fine : WellFormed a) where
       let after = subst (λ (s : Said). AllAgree R s proof_items) (sym front_all) proof in
       subst (AllAgree R nothing_said) (sym apart) (agree_join R nothing_said front_items proof_items front after)
 
-accepted_is_spelled : (g : Graph) (loops : ℕ) (text : List ℕ) (lower upper : ℕ) → length text < 2 ^ 63 → Verdict g loops text (Ok (lower, upper)) →
+accepted_is_spelled : (g : Graph) (loops : ℕ) (text : List ℕ) (lower upper : ℕ) → Verdict g loops text (Ok (lower, upper)) →
     SpellsProof g loops text lower upper
-accepted_is_spelled g loops text lower upper short verdict =
-    let h = says (check_rules g loops) text (lower, upper) short verdict in
+accepted_is_spelled g loops text lower upper verdict =
+    let h = says (check_rules g loops) text (lower, upper) verdict in
     let a = h.answer in
     let fine = h.well_formed in
     let is = is_for g loops a fine (front_of_agree g loops (items_of a) nothing_said h.agree) in
@@ -139,15 +139,15 @@ accepted_is_spelled g loops text lower upper short verdict =
       subst (λ (k : ℕ). Accepts g k a.rows a.tree) low (accepts g loops a fine h.agree),
     )
 
-spelled_is_accepted : (g : Graph) (loops : ℕ) (text : List ℕ) (lower upper : ℕ) → length text < 2 ^ 63 → SpellsProof g loops text lower upper →
+spelled_is_accepted : (g : Graph) (loops : ℕ) (text : List ℕ) (lower upper : ℕ) → SpellsProof g loops text lower upper →
     Verdict g loops text (Ok (lower, upper))
-spelled_is_accepted g loops text lower upper short h =
+spelled_is_accepted g loops text lower upper h =
     let a = h.0 in
     let s = h.1 in
     let is : IsFor g loops a = record { same_graph = s.same_graph; same_loops = s.same_loops; drawing = s.drawing; crossings = s.crossings } in
     let accepted = subst (λ (k : ℕ). Accepts g k a.rows a.tree) (sym h.2) h.4 in
     let bounds : (lower, upper) ≡ (a.lower, a.upper) = sym (ap (λ (k : ℕ). (k, a.upper)) h.2 ∙ ap (λ (k : ℕ). (lower, k)) h.3) in
-    said_so (check_rules g loops) text (lower, upper) short (record {
+    said_so (check_rules g loops) text (lower, upper) (record {
       answer = a;
       well_formed = s.well_formed;
       text_is = s.text_is;
@@ -156,4 +156,4 @@ spelled_is_accepted g loops text lower upper short h =
     })
 
 pub accepted_where_spelled : AcceptedWhereSpelled
-accepted_where_spelled g loops text lower upper short = (accepted_is_spelled g loops text lower upper short, spelled_is_accepted g loops text lower upper short)
+accepted_where_spelled g loops text lower upper = (accepted_is_spelled g loops text lower upper, spelled_is_accepted g loops text lower upper)

@@ -1,5 +1,5 @@
 -- The draw verdict in the words of the answer.
-use Rattle.std.proofs.Common.{◌≡◌, ℕ, ◌+◌, ◌^◌, ◌<◌, List, [], ◌∷◌, ◌++◌, length, drop, Ok, sym, subst, ap, ◌∙◌, arith}
+use Rattle.std.proofs.Common.{◌≡◌, ℕ, ◌+◌, List, [], ◌∷◌, ◌++◌, length, drop, Ok, sym, subst, ap, ◌∙◌, arith}
 use Rattle.xn_model.specs.Drawing.{IsListedDrawing, order_of}
 use Rattle.xn_model.specs.Graph.{Graph}
 use Rattle.xn_model.specs.Lists.{total}
@@ -103,9 +103,9 @@ module _ (g : Graph) (loops : ℕ) (a : Answer) where
       let sizes : (a.graph.nodes ≡ g.nodes) × (length a.graph.ends ≡ length g.ends) = (ap (λ (h : Graph). h.nodes) is.same_graph, count) in
       (tt, (sizes, (is.same_loops, agree_join R sized es with_bounds edges rest)))
 
-drawn_is_spelled : (g : Graph) (loops : ℕ) (text : List ℕ) (d : Drawing) → length text < 2 ^ 63 → DrawVerdict g loops text (Ok d) → SpellsDrawing g loops text d
-drawn_is_spelled g loops text d short verdict =
-    let h = says (draw_rules g loops) text d short verdict in
+drawn_is_spelled : (g : Graph) (loops : ℕ) (text : List ℕ) (d : Drawing) → DrawVerdict g loops text (Ok d) → SpellsDrawing g loops text d
+drawn_is_spelled g loops text d verdict =
+    let h = says (draw_rules g loops) text d verdict in
     let is = is_for g loops h.answer h.well_formed h.agree in (
       h.answer,
       record {
@@ -119,12 +119,12 @@ drawn_is_spelled g loops text d short verdict =
       sym (h.out_is ∙ ap (λ (f : FrontSaid). record { orders = f.lists; next = f.next }) (said_last g loops h.answer h.well_formed)),
     )
 
-spelled_is_drawn : (g : Graph) (loops : ℕ) (text : List ℕ) (d : Drawing) → length text < 2 ^ 63 → SpellsDrawing g loops text d → DrawVerdict g loops text (Ok d)
-spelled_is_drawn g loops text d short h =
+spelled_is_drawn : (g : Graph) (loops : ℕ) (text : List ℕ) (d : Drawing) → SpellsDrawing g loops text d → DrawVerdict g loops text (Ok d)
+spelled_is_drawn g loops text d h =
     let a = h.0 in
     let s = h.1 in
     let is : IsFor g loops a = record { same_graph = s.same_graph; same_loops = s.same_loops; drawing = s.drawing; crossings = s.crossings } in
-    said_so (draw_rules g loops) text d short (record {
+    said_so (draw_rules g loops) text d (record {
       answer = a;
       well_formed = s.well_formed;
       text_is = s.text_is;
@@ -133,4 +133,4 @@ spelled_is_drawn g loops text d short h =
     })
 
 pub drawn_where_spelled : DrawnWhereSpelled
-drawn_where_spelled g loops text d short = (drawn_is_spelled g loops text d short, spelled_is_drawn g loops text d short)
+drawn_where_spelled g loops text d = (drawn_is_spelled g loops text d, spelled_is_drawn g loops text d)

@@ -1,5 +1,5 @@
 -- The front verdict in the words of the answer.
-use Rattle.std.proofs.Common.{◌≡◌, ℕ, ◌^◌, ◌<◌, List, [], ◌∷◌, ◌++◌, length, map, Ok, refl, sym, subst, ap, ◌∙◌, append_assoc}
+use Rattle.std.proofs.Common.{◌≡◌, ℕ, List, [], ◌∷◌, ◌++◌, length, map, Ok, refl, sym, subst, ap, ◌∙◌, append_assoc}
 use Rattle.xn_draw.specs.Seen.{seen_of}
 use Rattle.xn_draw.specs.declared.results.Seen.{Seen}
 use Rattle.xn_kinds.specs.declared.answers.Answer.{Answer}
@@ -153,9 +153,9 @@ module _ (a : Answer) (fine : WellFormed a) where
       let rest = (all_other after (front_seen s item.Drawn) after_other).0 in
       subst (AllAgree front_rules start) (sym apart) (agree_join front_rules start before (item.Drawn ∷ after) (all_other before start before_other).0 (here, rest))
 
-seen_is_spelled : (text : List ℕ) (seen : Seen) → length text < 2 ^ 63 → FrontVerdict text (Ok seen) → SpellsFront text seen
-seen_is_spelled text seen short verdict =
-    let h = says front_rules text seen short verdict in
+seen_is_spelled : (text : List ℕ) (seen : Seen) → FrontVerdict text (Ok seen) → SpellsFront text seen
+seen_is_spelled text seen verdict =
+    let h = says front_rules text seen verdict in
     let a = h.answer in
     let is = is_drawn a h.well_formed h.agree in
     let seen_is = h.out_is ∙ seen_last a h.well_formed in
@@ -167,11 +167,11 @@ seen_is_spelled text seen short verdict =
       crossings = is.1 ∙ sym (ap (λ (s : Seen). s.crossings) seen_is);
     }
 
-spelled_is_seen : (text : List ℕ) (seen : Seen) → length text < 2 ^ 63 → SpellsFront text seen → FrontVerdict text (Ok seen)
-spelled_is_seen text seen short h =
+spelled_is_seen : (text : List ℕ) (seen : Seen) → SpellsFront text seen → FrontVerdict text (Ok seen)
+spelled_is_seen text seen h =
     let a = h.answer in
     let count = h.crossings ∙ ap (λ (s : Seen). s.crossings) h.is_seen.1 in
-    said_so front_rules text seen short (record {
+    said_so front_rules text seen (record {
       answer = a;
       well_formed = h.well_formed;
       text_is = h.text_is;
@@ -180,4 +180,4 @@ spelled_is_seen text seen short h =
     })
 
 pub seen_where_spelled : SeenWhereSpelled
-seen_where_spelled text seen short = (seen_is_spelled text seen short, spelled_is_seen text seen short)
+seen_where_spelled text seen = (seen_is_spelled text seen, spelled_is_seen text seen)

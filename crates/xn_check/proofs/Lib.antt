@@ -13,6 +13,7 @@ pub mod ItemKinds
 pub mod Items
 pub mod Leaves
 pub mod Lines
+pub mod NotRefused
 pub mod OneOutcome
 pub mod Parts
 pub mod RowItems

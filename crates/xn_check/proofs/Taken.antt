@@ -1,5 +1,5 @@
 -- Lines that keep their forms.
-use Rattle.std.proofs.Common.{◌≡◌, ◌-◌, Bool, true, false, cond, Result, Ok, Err, ap, ◌∙◌}
+use Rattle.std.proofs.Common.{◌≡◌, Bool, true, false, cond, Result, Ok, Err, ap, ◌∙◌}
 use Rattle.xn_kinds.specs.declared.flaws.Flaw.{Flaw}
 use Rattle.xn_text.specs.Pieces.{words_of}
 use Rattle.xn_proof.specs.Forms.{Line, Reached, is_end, next_at, rule_at, words_at}

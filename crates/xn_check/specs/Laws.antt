@@ -1,5 +1,5 @@
 -- What texts are that the verdicts accept.
-use Rattle.std.specs.Prelude.{◌≡◌, ℕ, ◌^◌, ◌<◌, ◌↔◌, List, length, Result, Ok}
+use Rattle.std.specs.Prelude.{◌≡◌, ℕ, ◌↔◌, List, Result, Ok, Err}
 use Rattle.xn_model.specs.Drawing.{IsAtMost, IsListedDrawing, IsAtLeast, order_of}
 use Rattle.xn_model.specs.Graph.{Graph, IsGraph}
 use Rattle.xn_model.specs.Orders.{crossing_count}
@@ -56,18 +56,30 @@ OneFrontVerdict = (text : List ℕ) (o p : Result Seen Flaw) → FrontVerdict te
 
 -- the front verdict gives what is seen exactly where the text spells an answer with such a drawing
 abbrev pub SeenWhereSpelled : Type 0
-SeenWhereSpelled = (text : List ℕ) (seen : Seen) → length text < 2 ^ 63 → FrontVerdict text (Ok seen) ↔ SpellsFront text seen
+SeenWhereSpelled = (text : List ℕ) (seen : Seen) → FrontVerdict text (Ok seen) ↔ SpellsFront text seen
 
 -- the draw verdict gives a drawing exactly where the text spells an answer with this drawing
 abbrev pub DrawnWhereSpelled : Type 0
-DrawnWhereSpelled =
-    (g : Graph) (loops : ℕ) (text : List ℕ) (d : Drawing) → length text < 2 ^ 63 → DrawVerdict g loops text (Ok d) ↔ SpellsDrawing g loops text d
+DrawnWhereSpelled = (g : Graph) (loops : ℕ) (text : List ℕ) (d : Drawing) → DrawVerdict g loops text (Ok d) ↔ SpellsDrawing g loops text d
 
 -- a text is accepted with its bounds exactly where it spells an answer with them and a proof
 abbrev pub AcceptedWhereSpelled : Type 0
 AcceptedWhereSpelled =
-    (g : Graph) (loops : ℕ) (text : List ℕ) (lower upper : ℕ) → length text < 2 ^ 63 →
+    (g : Graph) (loops : ℕ) (text : List ℕ) (lower upper : ℕ) →
     Verdict g loops text (Ok (lower, upper)) ↔ SpellsProof g loops text lower upper
+
+-- no text that spells such an answer is refused: by the front verdict, the draw verdict, and the verdict
+abbrev pub FrontsAreTaken : Type 0
+FrontsAreTaken = (text : List ℕ) (seen : Seen) (flaw : Flaw) → SpellsFront text seen → ¬ (FrontVerdict text (Err flaw))
+
+abbrev pub DrawingsAreTaken : Type 0
+DrawingsAreTaken =
+    (g : Graph) (loops : ℕ) (text : List ℕ) (d : Drawing) (flaw : Flaw) → SpellsDrawing g loops text d → ¬ (DrawVerdict g loops text (Err flaw))
+
+abbrev pub ProofsAreTaken : Type 0
+ProofsAreTaken =
+    (g : Graph) (loops : ℕ) (text : List ℕ) (lower upper : ℕ) (flaw : Flaw) → SpellsProof g loops text lower upper →
+    ¬ (Verdict g loops text (Err flaw))
 
 -- the text has a drawing with upper crossings, and rows and a tree that prove lower
 pub record HasProofOf (g : Graph) (lower upper : ℕ) : Type 0 where
@@ -85,4 +97,5 @@ AcceptedHasProof = (g : Graph) (loops : ℕ) (text : List ℕ) (lower upper : �
 -- a text that is accepted bounds the crossing number of its graph from both sides
 abbrev pub AcceptedTextBounds : Type 0
 AcceptedTextBounds =
-    (g : Graph) (loops : ℕ) (text : List ℕ) (lower upper : ℕ) → IsGraph g → Verdict g loops text (Ok (lower, upper)) → IsAtLeast g lower × IsAtMost g upper
+    (g : Graph) (loops : ℕ) (text : List ℕ) (lower upper : ℕ) → IsGraph g → Verdict g loops text (Ok (lower, upper)) →
+    IsAtLeast g lower × IsAtMost g upper

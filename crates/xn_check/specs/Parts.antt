@@ -39,8 +39,8 @@ abbrev pub rows_kept : List Row → List ℕ → List (List ℕ) → List ℕ �
 rows_kept whole listed orders branch paths = record { whole = whole; listed = listed; orders = orders; branch = branch; paths = paths }
 
 -- the row that is begun has a list for each of its edges
-abbrev pub HasLists : RowsSaid → Type 0
-HasLists s = length s.orders ≡ length s.listed
+abbrev pub HasRowLists : RowsSaid → Type 0
+HasRowLists s = length s.orders ≡ length s.listed
 
 -- ---- the tree
 

@@ -1,6 +1,6 @@
 //! Laws on the verdict. Each is the contract of a function whose body only names the law that it stands on.
 ghost use Rattle.xn_check.specs.Fitting.{FormsFitRows};
-ghost use Rattle.xn_check.specs.Laws.{AcceptedHasProof, AcceptedTextBounds, AcceptedWhereSpelled, DrawnWhereSpelled, OneDrawVerdict, OneFrontVerdict, OneVerdict, SeenWhereSpelled};
+ghost use Rattle.xn_check.specs.Laws.{AcceptedHasProof, AcceptedTextBounds, AcceptedWhereSpelled, DrawingsAreTaken, DrawnWhereSpelled, FrontsAreTaken, OneDrawVerdict, OneFrontVerdict, OneVerdict, ProofsAreTaken, SeenWhereSpelled};
 
 use xn_sound::laws::accepted_proofs;
 
@@ -39,6 +39,13 @@ pub fn drawn_texts()
 /// graph with `upper` crossings.
 pub fn seen_texts()
     ensures { SeenWhereSpelled }
+{}
+
+/// So no text that spells such an answer is refused.
+pub fn none_refused()
+    ensures verdict { ProofsAreTaken }
+    ensures draw { DrawingsAreTaken }
+    ensures front { FrontsAreTaken }
 {}
 
 /// What the forms of lines tell of the rows, at each place: as many are whole as are said, and the numbers of leaves are those of rows.

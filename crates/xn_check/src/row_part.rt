@@ -32,14 +32,14 @@ pub struct RowPart {
 
 impl Model for RowPart {
     ghost use Rattle.xn_list.specs.Lists.{lists_of};
-    ghost use Rattle.xn_check.specs.Parts.{HasLists, rows_kept};
+    ghost use Rattle.xn_check.specs.Parts.{HasRowLists, rows_kept};
     ghost use Rattle.xn_check.specs.RowsSaid.{RowsSaid};
 
     ghost Value = { RowsSaid };
 
     ghost view = { λ s. rows_kept s.whole.items s.listed.items (lists_of s.orders.items) s.branch (lists_of s.paths.items) };
 
-    ghost invariant = { λ s. HasLists (rows_kept s.whole.items s.listed.items (lists_of s.orders.items) s.branch (lists_of s.paths.items)) };
+    ghost invariant = { λ s. HasRowLists (rows_kept s.whole.items s.listed.items (lists_of s.orders.items) s.branch (lists_of s.paths.items)) };
 }
 
 impl RowPart {

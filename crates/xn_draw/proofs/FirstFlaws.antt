@@ -11,10 +11,10 @@ use Rattle.std.specs.List.{IsDistinct, range_with_len}
 use Rattle.std.specs.Prelude.{nat_eq}
 use Rattle.xn_orders.specs.Entries.{list_of}
 use Rattle.xn_orders.proofs.AllEdges.{order_of-at, order_of-same}
-use Rattle.xn_orders.proofs.Entered.{place_of}
 use Rattle.xn_orders.proofs.Numbered.{has-get_or}
+use Rattle.xn_model.proofs.Has.{place_of}
 use Rattle.xn_draw.specs.Flaws.{HasCrossings, HasMap, IsFirstTouch, IsTouch}
-use Rattle.xn_draw.specs.Touches.{NoTouch, RunsOn, TouchesAt, TouchesFirst, first_of}
+use Rattle.xn_draw.specs.Touches.{NoTouch, TurnsOn, TouchesAt, TouchesFirst, first_of}
 use Rattle.xn_draw.proofs.Totals.{segment_count}
 
 position_in-at : (xs : List ℕ) (i : ℕ) → IsDistinct nat_eq xs → i < length xs → position_in xs (at xs i) ≡ i
@@ -50,12 +50,12 @@ module _ (g : Graph) (lists : List (List ℕ)) (next : List ℕ) (has_map : HasM
           let before = before_is e f place.0 place.1 place.2 in
           let s = first_of lists e + place.0 in
           elim (cases_eq (at next (at next (2 * s + 1))) (2 * (s + 1))) [
-            | inl straight ↦ subst (RunsOn (at next)) (sym before) straight
+            | inl straight ↦ subst (TurnsOn (at next)) (sym before) straight
             | inr bent ↦ absurd (none e place.0 place.1 (omega (arith, below, place.2), bent))
           ]
 
-  touch_at : (e f i : ℕ) → i < length (list_of lists e) → at (list_of lists e) i ≡ f → ¬ (CrossesAt (edges_of g) (order_of g lists) (at next) e f) → ¬ (RunsOn (at next) (first_of lists e + i))
-  touch_at e f i low here touch straight = touch (subst (RunsOn (at next)) (sym (before_is e f i low here)) straight)
+  touch_at : (e f i : ℕ) → i < length (list_of lists e) → at (list_of lists e) i ≡ f → ¬ (CrossesAt (edges_of g) (order_of g lists) (at next) e f) → ¬ (TurnsOn (at next) (first_of lists e + i))
+  touch_at e f i low here touch straight = touch (subst (TurnsOn (at next)) (sym (before_is e f i low here)) straight)
 
   -- the first touch by the places in the lists is the first
   pub first_touch : (e f : ℕ) → TouchesFirst lists (at next) e f → IsFirstTouch g lists next e f
@@ -68,7 +68,7 @@ module _ (g : Graph) (lists : List (List ℕ)) (next : List ℕ) (has_map : HasM
         here = (
           omega (arith, touches.0, here),
           ap (λ l. has l f) (order_of-at g lists fits e) ∙ sym (ap (has (list_of lists e)) here) ∙ has-get_or (list_of lists e) i 0 low,
-          λ crosses. touches.1 (subst (RunsOn (at next)) (before_is e f i low here) crosses),
+          λ crosses. touches.1 (subst (TurnsOn (at next)) (before_is e f i low here) crosses),
         );
         before = none_before;
       }

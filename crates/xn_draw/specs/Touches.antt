@@ -6,12 +6,12 @@ use Rattle.xn_model.specs.Web.{first_segment}
 use Rattle.xn_orders.specs.Entries.{list_of}
 
 -- from the end of the segment two turns lead to the next segment
-abbrev pub RunsOn : (ℕ → ℕ) → ℕ → Type 0
-RunsOn next s = next (next (2 * s + 1)) ≡ 2 * (s + 1)
+abbrev pub TurnsOn : (ℕ → ℕ) → ℕ → Type 0
+TurnsOn next s = next (next (2 * s + 1)) ≡ 2 * (s + 1)
 
 -- entry i of the list of e, whose segments begin with first, is a later edge, and they touch
 abbrev pub TouchesAt : List ℕ → (ℕ → ℕ) → ℕ → ℕ → ℕ → Type 0
-TouchesAt list next e first i = (e < at list i) × ¬ (RunsOn next (first + i))
+TouchesAt list next e first i = (e < at list i) × ¬ (TurnsOn next (first + i))
 
 -- among the first n entries of its list e touches no later edge
 abbrev pub NoTouchIn : List ℕ → (ℕ → ℕ) → ℕ → ℕ → ℕ → Type 0

@@ -2,7 +2,7 @@
 ghost use Rattle.std.specs.Prelude.{◌≡◌, ◌+◌, ◌*◌, ◌<◌, ◌≤◌, ◌^◌, ◌↔◌, length, IsTrue, MatchOption};
 ghost use Rattle.xn_model.specs.Lists.{at, total};
 ghost use Rattle.xn_orders.specs.Entries.{list_of};
-ghost use Rattle.xn_draw.specs.Touches.{IsLeastTouch, NoTouch, RunsOn, TouchesFirst};
+ghost use Rattle.xn_draw.specs.Touches.{IsLeastTouch, NoTouch, TurnsOn, TouchesFirst};
 
 use xn_kinds::Orders;
 use xn_map::Map;
@@ -44,7 +44,7 @@ fn touched_by(orders: &Orders, map: &Map, e: u32, first: u32) -> Option<u32>
 fn goes_straight(map: &Map, s: u32) -> bool
     requires few { length map.now.next ≤ 2 ^ 31 }
     requires dart { 2 * (s + 1) < length map.now.next }
-    ensures { IsTrue result ↔ RunsOn (at map.now.next) s }
+    ensures { IsTrue result ↔ TurnsOn (at map.now.next) s }
 {
     map.next(map.next(2 * s + 1)) == 2 * s + 2
 }

@@ -52,7 +52,7 @@ pub record Resolves (old : ListedMap) (v : ℕ) (how : Way) (new : ListedMap) : 
   pub resolved : IsResolution new.web.nodes old.web.ends (at old.next) (cut_at how first second) (cut_at how third fourth) new.web.ends (at new.next)
 
 -- v can be split before x and before z
-pub record IsCut (m : ListedMap) (v : ℕ) (how : Way) (x z : ℕ) : Type 0 where
+pub record IsCutBetween (m : ListedMap) (v : ℕ) (how : Way) (x z : ℕ) : Type 0 where
   pub first : ℕ
   pub second : ℕ
   pub third : ℕ

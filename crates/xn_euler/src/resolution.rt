@@ -1,8 +1,8 @@
-ghost use Rattle.std.specs.Prelude.{◌≡◌, ◌≢◌, ℕ, ◌*◌, ◌^◌, ◌<◌, OnErr, OnOk, length};
+ghost use Rattle.std.specs.Prelude.{◌≡◌, ◌≢◌, ℕ, ◌^◌, ◌<◌, OnErr, OnOk, length};
 ghost use Rattle.xn_model.specs.Map.{tail_of};
 ghost use Rattle.xn_map.specs.Changes.{StaysFlat};
 ghost use Rattle.xn_map.specs.Listed.{IsListedMap};
-ghost use Rattle.xn_euler.specs.Resolving.{AreFourDarts, CanResolve, IsCut, Resolves};
+ghost use Rattle.xn_euler.specs.Resolving.{AreFourDarts, CanResolve, IsCutBetween, Resolves};
 
 use std::alloc::AllocError;
 use xn_map::Map;
@@ -38,7 +38,7 @@ pub fn resolve(map: &mut Map, v: u32, how: Way) -> Result<(), AllocError>
 fn cut(map: &Map, v: u32, how: Way) -> (u32, u32)
     requires { CanResolve map.now v how }
     ensures map { IsListedMap map.now }
-    ensures cut { IsCut map.now v how result.0 result.1 }
+    ensures cut { IsCutBetween map.now v how result.0 result.1 }
 {
     let a = least_dart(map, v);
     let b = map.next(a);

@@ -1,31 +1,15 @@
 -- The corners of the segments that are in, by the numbers of the list.
 use Rattle.std.proofs.Common.{◌≡◌, ◌≢◌, ◌==◌, ℕ, suc, ◌+◌, ◌*◌, ◌/◌, ◌%◌, ◌<◌, ◌≤◌, inl, inr, true, eqb, List, length, sym, ap, ◌∙◌, arith}
-use Rattle.std.proofs.lemmas.Bool.{eq-eqb, eqb-true, or_cases, or_left, or_right}
+use Rattle.std.proofs.lemmas.Bool.{eq-eqb, eqb-true, or_cases}
 use Rattle.std.proofs.lemmas.List.{length-map}
 use Rattle.xn_model.specs.Graph.{HasNoLoop, ends_at, touches}
 use Rattle.xn_model.specs.Insertion.{IsOldCorner, is_old}
 use Rattle.xn_model.specs.Lists.{at}
 use Rattle.xn_model.specs.Map.{tail_of}
-use Rattle.xn_model.proofs.Darts.{cases_dart, tail-even, tail-odd}
+use Rattle.xn_model.proofs.Darts.{tail-even, tail-odd, touches_tail}
 use Rattle.xn_genus.specs.Part.{AreSegmentsApart, IsPart, dart_listed, ends_listed}
 use Rattle.xn_genus.proofs.Listed.{part_listed}
 use Rattle.xn_extend.proofs.Listing.{any_done, done_any, done_of}
-
--- a segment touches the node of each of its darts
-touches_tail : (ends : List (ℕ × ℕ)) (d : ℕ) → touches (ends_at ends (d / 2)) (tail_of ends d) ≡ true
-touches_tail ends d =
-    let p = ends_at ends (d / 2) in
-    let c = cases_dart d in
-    elim c.1 [
-      | inl even ↦
-          let half : c.0 ≡ d / 2 = omega (arith, even) in
-          let is : p.0 ≡ tail_of ends d = sym (ap (tail_of ends) even ∙ tail-even ends c.0 ∙ ap (λ s. (ends_at ends s).0) half) in
-          or_left (eqb p.0 (tail_of ends d)) (eqb p.1 (tail_of ends d)) (eq-eqb _ _ is)
-      | inr odd ↦
-          let half : c.0 ≡ d / 2 = omega (arith, odd) in
-          let is : p.1 ≡ tail_of ends d = sym (ap (tail_of ends) odd ∙ tail-odd ends c.0 ∙ ap (λ s. (ends_at ends s).1) half) in
-          or_right (eqb p.0 (tail_of ends d)) (eqb p.1 (tail_of ends d)) (eq-eqb _ _ is)
-    ]
 
 module _ (ends : List (ℕ × ℕ)) (list : List ℕ) (apart : AreSegmentsApart ends list) where
   abbrev e : ℕ → ℕ

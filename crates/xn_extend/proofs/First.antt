@@ -1,31 +1,19 @@
 -- The map of the first segment.
-use Rattle.std.proofs.Common.{◌≡◌, ℕ, zero, suc, ◌+◌, ◌*◌, ◌<◌, inl, inr, false, eqb, List, [], ◌∷◌, length, refl, sym, ◌∙◌, ap, subst, arith}
+use Rattle.std.proofs.Common.{◌≡◌, ℕ, ◌+◌, ◌*◌, ◌<◌, inl, inr, false, eqb, List, [], ◌∷◌, length, refl, sym, ◌∙◌, ap, arith}
 use Rattle.std.proofs.lemmas.Bool.{both_ways, eqb-true, or_cases}
 use Rattle.xn_extend.proofs.Inserted.{new_end}
 use Rattle.xn_extend.proofs.Old.{IsGrown}
 use Rattle.xn_extend.proofs.Pair.{ArePair-darts}
 use Rattle.xn_extend.proofs.Round.{IsMapOn-pair, IsRoundOn-map, IsRoundOn-new, and_dart, dart_of}
 use Rattle.xn_extend.proofs.UpTo.{IsFlatUpTo}
-use Rattle.xn_genus.proofs.Counts.{cycle_count-front, no_segments}
-use Rattle.xn_genus.proofs.Euler.{Permutes-reverse, kept-none}
+use Rattle.xn_genus.proofs.Counts.{no_segments}
+use Rattle.xn_genus.proofs.Euler.{cycle_count-reverse, kept-none}
 use Rattle.xn_genus.specs.Live.{kept}
-use Rattle.xn_model.proofs.Darts.{reverse-even, reverse-odd}
 use Rattle.xn_model.specs.Graph.{EndsIn, HasNoLoop}
 use Rattle.xn_model.specs.Lists.{has}
-use Rattle.xn_model.specs.Map.{component_count, is_lone, reverse_of, tail_of}
-use Rattle.xn_model.specs.Permutation.{Permutes, count_below, cycle_count}
+use Rattle.xn_model.specs.Map.{component_count, is_lone, tail_of}
+use Rattle.xn_model.specs.Permutation.{count_below}
 use Rattle.xn_ring.proofs.Counting.{count-all}
-
--- each segment that is not in is a face of its own
-cycle_count-reverse : (m : ℕ) → cycle_count (2 * m) reverse_of ≡ m
-cycle_count-reverse zero = refl
-cycle_count-reverse (suc m) =
-    let more : 2 * suc m ≡ suc (suc (2 * m)) = omega arith in
-    let next_is : 2 * m + 1 ≡ suc (2 * m) = omega arith in
-    let P : ℕ → Type 0 = λ n. Permutes n reverse_of in
-    ap (λ n. cycle_count n reverse_of) more
-    ∙ cycle_count-front (2 * m) reverse_of (subst P more (Permutes-reverse (suc m))) (reverse-even m ∙ next_is) (ap reverse_of (sym next_is) ∙ reverse-odd m)
-    ∙ ap suc (cycle_count-reverse m)
 
 -- no segment is in
 none_is_flat : (nodes : ℕ) (ends : List (ℕ × ℕ)) → IsFlatUpTo nodes ends [] (λ d. d)

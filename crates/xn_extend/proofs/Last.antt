@@ -1,6 +1,7 @@
 -- The last segment of a flat map that grew has come by a flat insertion.
 use Rattle.std.proofs.Common.{◌≡◌, ◌≢◌, ℕ, zero, suc, ◌+◌, ◌*◌, ◌/◌, ◌<◌, ◌⊎◌, inl, inr, Bool, true, false, ◌||◌, eqb, List, ◌∷◌, length, refl, sym, ◌∙◌, ap, arith}
 use Rattle.std.proofs.lemmas.Bool.{both_ways, cases_Bool, cases_eq, eq-eqb, eqb-true, or_cases, or_left, or_right}
+use Rattle.xn_model.proofs.Decide.{iterate-step}
 use Rattle.xn_extend.proofs.Cut.{IsCut, IsCut-turned, IsCut-without}
 use Rattle.xn_extend.proofs.Pair.{ArePair, ArePair-darts, ArePair-turned}
 use Rattle.xn_extend.proofs.Old.{AreIn, IsGrown, old_dart, old_from_dart}
@@ -15,7 +16,7 @@ use Rattle.xn_model.specs.Insertion.{CutsFace, FlatInsertion, HangsAt, IsOldCorn
 use Rattle.xn_model.specs.Lists.{at, has}
 use Rattle.xn_model.specs.Map.{component_labels, face_step, reverse_of, tail_of}
 use Rattle.xn_model.specs.Permutation.{Permutes, Reaches, iterate, without}
-use Rattle.xn_ring.proofs.Orbits.{comes_back, iterate-step, reaches_back, reaches_step, source_of}
+use Rattle.xn_ring.proofs.Orbits.{comes_back, reaches_back, reaches_step, source_of}
 use Rattle.xn_ring.proofs.Without.{without-at, without-before, without-other}
 
 -- what leads to d is a dart of a segment that is in

@@ -1,14 +1,15 @@
 -- Each dart that goes in makes a map of those that are in.
-use Rattle.std.proofs.Common.{◌≡◌, ◌≢◌, ℕ, zero, suc, ◌*◌, ◌<◌, ◌≤◌, inl, inr, List, length, refl, sym, ap, subst, ◌∙◌, arith}
+use Rattle.std.proofs.Common.{◌≡◌, ◌≢◌, ℕ, zero, suc, ◌*◌, ◌<◌, ◌≤◌, inl, inr, List, length, sym, ap, subst, ◌∙◌, arith}
 use Rattle.std.specs.List.{range_with_len, swap}
 use Rattle.std.proofs.lemmas.Bool.{cases_eq}
 use Rattle.std.proofs.lemmas.List.Edits.{length-swap}
 use Rattle.std.proofs.lemmas.List.FromFn.{get_or-range_with_len, length-range_with_len}
 use Rattle.xn_model.specs.Lists.{at}
 use Rattle.xn_model.specs.Map.{tail_of}
-use Rattle.xn_model.specs.Permutation.{IsSplice, Permutes, Reaches, iterate}
+use Rattle.xn_model.specs.Permutation.{IsSplice, Permutes, Reaches}
 use Rattle.xn_ring.proofs.Orbits.{reaches_back}
 use Rattle.xn_ring.proofs.Splice.{IsSplice-swap, JoinsCycles-splice, Permutes-splice}
+use Rattle.xn_genus.proofs.Counts.{stays_alone}
 use Rattle.xn_extend.specs.Search.{Came, IsChoice, leader, taken_back}
 use Rattle.xn_extend.proofs.Swapped.{leader-is, swap-same, swap-swap}
 
@@ -19,11 +20,6 @@ pub record IsLive (ends : List (ℕ × ℕ)) (k : ℕ) (next : List ℕ) : Type 
   pub alone : (d : ℕ) → k ≤ d → d < 2 * length ends → at next d ≡ d
   pub same_node : (d : ℕ) → d < 2 * length ends → tail_of ends (at next d) ≡ tail_of ends d
   pub one_ring : (d e : ℕ) → d < k → e < k → tail_of ends d ≡ tail_of ends e → Reaches (at next) d e
-
--- the walk from a number that leads to itself stays there
-pub stays_alone : (f : ℕ → ℕ) (d : ℕ) → f d ≡ d → (k : ℕ) → iterate f k d ≡ d
-stays_alone f d alone zero = refl
-stays_alone f d alone (suc k) = ap f (stays_alone f d alone k) ∙ alone
 
 at_start : (n d : ℕ) → d < n → at (range_with_len 0 n) d ≡ d
 at_start n d below = get_or-range_with_len 0 n d 0 below ∙ omega arith

@@ -3,7 +3,7 @@ use Rattle.std.proofs.Common.{◌≡◌, ◌≢◌, ℕ, suc, ◌+◌, ◌<◌, 
 use Rattle.std.specs.Prelude.{◌↔◌}
 use Rattle.std.specs.List.{IsDistinct, list_any}
 use Rattle.std.proofs.lemmas.Bool.{both_ways, cases_eq, cases_lt, eq-eqb, eqb-true, ne_eqb, or_cases, or_left, or_right}
-use Rattle.std.proofs.lemmas.List.{get_or-replicate, get_or-take, length-replicate, length-take-le}
+use Rattle.std.proofs.lemmas.List.{get_or-replicate, get_or-take, length-take-le}
 use Rattle.std.proofs.lemmas.Grind.{get_or_default_zero}
 use Rattle.std.proofs.lemmas.Map.Keys.{IsDistinct-from_apart}
 use Rattle.std.proofs.lemmas.Map.Steps.{length-le_from_distinct_below}
@@ -16,18 +16,6 @@ use Rattle.xn_extend.specs.ListFlaw.{FrontMarked, IsMisfit, Repeats, SharesNode}
 -- no place is marked
 unmarked : (n x : ℕ) → is_marked (replicate n false) x ≡ true → x < n → ⊥
 unmarked n x met below = both_ways _ (get_or-replicate n x false false below) met
-
-pub FrontMarked-none : (web : Graph) (list : List ℕ) → FrontMarked web list 0 (replicate (length web.ends) false) (replicate web.nodes false)
-FrontMarked-none web list =
-    let used_size = length-replicate (length web.ends) false in
-    let met_size = length-replicate web.nodes false in
-    record {
-      used_size = used_size;
-      met_size = met_size;
-      marks_used = λ s s_in. (λ met. absurd (unmarked (length web.ends) s met (omega (arith, s_in, used_size))), λ found. absurd (omega (arith, found.1)));
-      marks_met = λ v v_in. (λ met. absurd (unmarked web.nodes v met (omega (arith, v_in, met_size))), λ found. absurd (omega (arith, found.1)));
-      fit = λ q below. absurd (omega arith);
-    }
 
 -- some element passes
 pub any_at : (p : ℕ → Bool) (xs : List ℕ) → list_any p xs ≡ true → (i : ℕ) × (i < length xs) × (p (at xs i) ≡ true)

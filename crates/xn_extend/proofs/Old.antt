@@ -1,6 +1,5 @@
 -- The nodes of the segments that are in.
-use Rattle.std.proofs.Common.{◌≡◌, ℕ, ◌*◌, ◌/◌, ◌<◌, inl, inr, Bool, true, false, ◌||◌, eqb, List, [], ◌∷◌, length, refl, sym, ◌∙◌, ap, arith}
-use Rattle.std.specs.List.{list_any}
+use Rattle.std.proofs.Common.{◌≡◌, ℕ, ◌*◌, ◌/◌, ◌<◌, inl, inr, true, false, ◌||◌, eqb, List, [], ◌∷◌, length, refl, sym, ◌∙◌, ap, arith}
 use Rattle.std.proofs.lemmas.Bool.{both_ways, eq-eqb, eqb-true, or_cases, or_left, or_right}
 use Rattle.xn_genus.proofs.Lone.{touched_dart}
 use Rattle.xn_model.proofs.Darts.{cases_dart, tail-even, tail-odd}
@@ -8,21 +7,7 @@ use Rattle.xn_model.specs.Graph.{ends_at, touches}
 use Rattle.xn_model.specs.Insertion.{IsOldCorner, is_old}
 use Rattle.xn_model.specs.Lists.{has}
 use Rattle.xn_model.specs.Map.{tail_of}
-
--- some element passes
-any_has_to : (t : ℕ → Bool) (done : List ℕ) → list_any t done ≡ true → (j : ℕ) × (has done j ≡ true) × (t j ≡ true)
-any_has_to t [] h = absurd (both_ways false refl h)
-any_has_to t (y ∷ done) h = elim (or_cases (t y) (list_any t done) h) [
-  | inl here ↦ (y, or_left (eqb y y) (has done y) (eq-eqb y y refl), here)
-  | inr later ↦ let found = any_has_to t done later in (found.0, or_right (eqb y found.0) (has done found.0) found.1, found.2)
-]
-
-any_has_from : (t : ℕ → Bool) (done : List ℕ) (j : ℕ) → has done j ≡ true → t j ≡ true → list_any t done ≡ true
-any_has_from t [] j is passes = absurd (both_ways false refl is)
-any_has_from t (y ∷ done) j is passes = elim (or_cases (eqb y j) (has done j) is) [
-  | inl here ↦ or_left (t y) (list_any t done) (ap t (eqb-true y j here) ∙ passes)
-  | inr later ↦ or_right (t y) (list_any t done) (any_has_from t done j later passes)
-]
+use Rattle.xn_model.proofs.Has.{any_from, any_to}
 
 -- each segment that is in is one of the web
 abbrev pub AreIn : List (ℕ × ℕ) → List ℕ → Type 0
@@ -32,7 +17,7 @@ AreIn ends done = (j : ℕ) → has done j ≡ true → j < length ends
 pub old_dart : (ends : List (ℕ × ℕ)) (done : List ℕ) → AreIn ends done → (w : ℕ) → is_old ends done w ≡ true →
     (x : ℕ) × (x < 2 * length ends) × (has done (x / 2) ≡ true) × (tail_of ends x ≡ w)
 old_dart ends done are_in w old =
-    let found = any_has_to (λ s. touches (ends_at ends s) w) done old in
+    let found = any_to (λ s. touches (ends_at ends s) w) done old in
     let dart = touched_dart ends w found.0 (are_in found.0 found.1) found.2 in
     let half : dart.0 / 2 ≡ found.0 = omega (arith, dart.3) in
     (dart.0, dart.1, ap (has done) half ∙ found.1, dart.2)
@@ -47,7 +32,7 @@ old_from_dart ends done x is =
       | inl even ↦ or_left (eqb p.0 w) (eqb p.1 w) (eq-eqb p.0 w (sym (tail-even ends c.0) ∙ ap (tail_of ends) (sym even)))
       | inr odd ↦ or_right (eqb p.0 w) (eqb p.1 w) (eq-eqb p.1 w (sym (tail-odd ends c.0) ∙ ap (tail_of ends) (sym odd)))
     ] in
-    any_has_from (λ s. touches (ends_at ends s) w) done c.0 (ap (has done) (sym half) ∙ is) touch
+    any_from (λ s. touches (ends_at ends s) w) done c.0 (ap (has done) (sym half) ∙ is) touch
 
 pub corner_in : (ends : List (ℕ × ℕ)) (done : List ℕ) → AreIn ends done → (d c : ℕ) → IsOldCorner ends done d c → c < 2 * length ends
 corner_in ends done are_in d c is = let half = are_in (c / 2) is.in_map in omega (arith, half)

@@ -1,6 +1,7 @@
 -- A dart comes into the ring of a node.
 use Rattle.std.proofs.Common.{◌≡◌, ◌≢◌, ℕ, ◌*◌, ◌/◌, ◌<◌, inl, inr, Bool, true, false, ◌||◌, eqb, List, ◌∷◌, length, sym, ◌∙◌, ap}
 use Rattle.std.proofs.lemmas.Bool.{both_ways, cases_eq, eq-eqb, eqb-true, false_from_ne_true, or_cases, or_left, or_right}
+use Rattle.xn_model.proofs.Tests.{same_tests}
 use Rattle.xn_extend.proofs.Pair.{ArePair}
 use Rattle.xn_genus.proofs.Counts.{stays_alone}
 use Rattle.xn_genus.specs.Live.{IsMapOn}
@@ -8,7 +9,6 @@ use Rattle.xn_model.specs.Insertion.{StandsAfter}
 use Rattle.xn_model.specs.Lists.{has}
 use Rattle.xn_model.specs.Map.{tail_of}
 use Rattle.xn_model.specs.Permutation.{IsSplice, Permutes, Reaches, iterate}
-use Rattle.xn_ring.proofs.Counting.{same_tests}
 use Rattle.xn_ring.proofs.Orbits.{reaches_back, reaches_trans}
 use Rattle.xn_ring.proofs.Splice.{JoinsCycles-splice, Permutes-splice}
 use Rattle.xn_ring.specs.Swaps.{JoinsCycles}

@@ -1,13 +1,14 @@
 -- Where two darts are cut out of one face, what followed them lies in two faces.
 use Rattle.std.proofs.Common.{◌≡◌, ◌≢◌, ℕ, zero, suc, ◌+◌, ◌-◌, ◌*◌, ◌<◌, inl, inr, eqb, List, length, refl, sym, ◌∙◌, ap, arith}
 use Rattle.std.proofs.lemmas.Bool.{cases_eq, eqb-false, eqb-true}
+use Rattle.xn_model.proofs.Decide.{iterate-step}
 use Rattle.xn_extend.proofs.Cut.{IsCut}
 use Rattle.xn_extend.proofs.Pair.{ArePair}
 use Rattle.xn_genus.proofs.Counts.{Permutes-face}
 use Rattle.xn_model.proofs.Darts.{reverse-reverse}
 use Rattle.xn_model.specs.Map.{face_step, reverse_of, tail_of}
 use Rattle.xn_model.specs.Permutation.{Permutes, Reaches, iterate}
-use Rattle.xn_ring.proofs.Orbits.{first_below, iterate-add, iterate-step, iterate_below, reaches_back}
+use Rattle.xn_ring.proofs.Orbits.{first_below, iterate-add, iterate_below, reaches_back}
 
 module _ (ends : List (ℕ × ℕ)) (s d e : ℕ) (pair : ArePair ends s d e) (before after : ℕ → ℕ) (permutes : Permutes (2 * length ends) after)
     (cut : IsCut d e before after) (first_moves : after d ≢ d) where

@@ -1,6 +1,6 @@
 // The search for a flat map of a web. It puts one dart after another into the rings, and takes the last one out
 // where no other can follow. The rings are their own stack: what leads to a dart is the corner chosen for it.
-ghost use Rattle.std.specs.Prelude.{◌≡◌, ℕ, ◌*◌, ◌<◌, ◌↔◌, IfNone, IfOk, IfSome, IsTrue, length};
+ghost use Rattle.std.specs.Prelude.{◌≡◌, ◌*◌, ◌<◌, ◌↔◌, IfNone, IfOk, IfSome, IsTrue, length};
 ghost use Rattle.std.specs.List.{range_with_len};
 ghost use Rattle.xn_extend.specs.Search.{AreEarlier, Came, IsChoice, IsInFace, IsNextChoice, Leads};
 

@@ -7,8 +7,8 @@ use Rattle.xn_model.specs.Graph.{Independent, each_two, ends_at, independent, to
 use Rattle.xn_model.specs.Lists.{has}
 use Rattle.xn_model.specs.Orders.{crossings_of}
 use Rattle.xn_model.specs.Web.{crossing_node, crossing_number_in}
-use Rattle.xn_fewer.proofs.Rising.{Rising, all_of}
-use Rattle.xn_fewer.proofs.Has.{has-first, has-later}
+use Rattle.xn_model.proofs.Has.{all_of, has-first, has-later}
+use Rattle.xn_fewer.proofs.Rising.{Rising}
 
 -- an edge isn't independent of itself
 pub not_of_itself : (ends : List (ℕ × ℕ)) (e f : ℕ) → Independent ends e f → e ≢ f

@@ -9,14 +9,15 @@ use Rattle.xn_model.specs.Map.{IsFlat}
 use Rattle.xn_model.specs.Orders.{IsOrders, crossings_of}
 use Rattle.xn_model.specs.Web.{crossing_node, segments_of, segments_through, web_of}
 use Rattle.xn_genus.proofs.Kept.{EndsIn_at}
-use Rattle.xn_surgery.proofs.OverlayComponents.{EndsIn-both}
+use Rattle.xn_model.proofs.Has.{has-all, has-first, has-later}
+use Rattle.xn_model.proofs.Darts.{EndsIn-both}
 use Rattle.xn_fewer.specs.Flat.{HasFlat, both}
-use Rattle.xn_fewer.specs.Laws.{FewerEdgesStayFlat, IsRestriction}
+use Rattle.xn_fewer.specs.Laws.{FewerEdgesStayFlat, RestrictsOrders}
 use Rattle.xn_fewer.proofs.Crossings.{IsCross, crossing_at, crossings_apart, node_apart, node_facts, node_turned, not_of_itself}
 use Rattle.xn_fewer.proofs.Lists.{both-append}
 use Rattle.xn_fewer.proofs.Renamed.{AreNames, renamed_flat}
-use Rattle.xn_fewer.proofs.Rising.{Rising, distinct-rising, has-all, rises-filter, rising-from_increasing, same_rising}
-use Rattle.xn_fewer.proofs.Has.{has-first, has-kept, has-later, has-picked}
+use Rattle.xn_fewer.proofs.Rising.{Rising, distinct-rising, rises-filter, rising-from_increasing, same_rising}
+use Rattle.xn_fewer.proofs.Has.{has-kept, has-picked}
 use Rattle.xn_fewer.proofs.Smoothed.{AreWays, all_smoothed, edges_dropped, way}
 
 -- ---- lists of segments under other names
@@ -47,7 +48,7 @@ ends-flat_map n f [] each = tt
 ends-flat_map n f (e ∷ es) each = EndsIn-both n (f e) (flat_map f es) (each e (has-first e es)) (ends-flat_map n f es (λ x x_in. each x (has-later e es x x_in)))
 
 module _ (g : Graph) (is_graph : IsGraph g) (edges small : List ℕ) (ord less : ℕ → List ℕ) (all : IsOrders g.ends edges ord) (some : IsOrders g.ends small less)
-    (part : IsRestriction edges small ord less) (next : ℕ → ℕ) (flat : IsFlat (web_of g edges ord) next) where
+    (part : RestrictsOrders edges small ord less) (next : ℕ → ℕ) (flat : IsFlat (web_of g edges ord) next) where
   rising : Rising edges
   rising = rising-from_increasing edges all.edge_list.rise
 

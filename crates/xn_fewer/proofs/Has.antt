@@ -1,36 +1,9 @@
 -- What stands in a list.
-use Rattle.std.proofs.Common.{◌≡◌, ℕ, ◌⊎◌, inl, inr, Bool, true, false, ◌||◌, eqb, List, [], ◌∷◌, ◌++◌, map, refl, sym, ◌∙◌, ap, subst}
+use Rattle.std.proofs.Common.{◌≡◌, ℕ, inl, inr, Bool, true, false, eqb, List, [], ◌∷◌, map, refl, sym, ◌∙◌, ap, subst}
 use Rattle.std.specs.Prelude.{filter}
-use Rattle.std.proofs.lemmas.Bool.{both_ways, cases_Bool, or_cases, or_left, or_right, eqb-true, eq-eqb}
+use Rattle.std.proofs.lemmas.Bool.{both_ways, cases_Bool, or_cases, or_left, eqb-true}
 use Rattle.xn_model.specs.Lists.{has}
-
-pub has-first : (x : ℕ) (xs : List ℕ) → has (x ∷ xs) x ≡ true
-has-first x xs = rw (eq-eqb x x refl) refl
-
-pub has-later : (x : ℕ) (xs : List ℕ) (y : ℕ) → has xs y ≡ true → has (x ∷ xs) y ≡ true
-has-later x xs y y_in = later (eqb x y) (has xs y) y_in
-  where
-    later : (a b : Bool) → b ≡ true → (a || b) ≡ true
-    later true b h = refl
-    later false b h = h
-
-pub has-append : (xs ys : List ℕ) (x : ℕ) → has (xs ++ ys) x ≡ true → (has xs x ≡ true) ⊎ (has ys x ≡ true)
-has-append [] ys x h = inr h
-has-append (y ∷ xs) ys x h = elim (or_cases (eqb y x) (has (xs ++ ys) x) h) [
-  | inl here ↦ inl (or_left (eqb y x) (has xs x) here)
-  | inr later ↦ elim (has-append xs ys x later) [ inl a ↦ inl (or_right (eqb y x) (has xs x) a) | inr b ↦ inr b ]
-]
-
-pub has-left : (xs ys : List ℕ) (x : ℕ) → has xs x ≡ true → has (xs ++ ys) x ≡ true
-has-left [] ys x h = absurd (both_ways false refl h)
-has-left (y ∷ xs) ys x h = elim (or_cases (eqb y x) (has xs x) h) [
-  | inl here ↦ or_left (eqb y x) (has (xs ++ ys) x) here
-  | inr later ↦ or_right (eqb y x) (has (xs ++ ys) x) (has-left xs ys x later)
-]
-
-pub has-right : (xs ys : List ℕ) (x : ℕ) → has ys x ≡ true → has (xs ++ ys) x ≡ true
-has-right [] ys x h = h
-has-right (y ∷ xs) ys x h = or_right (eqb y x) (has (xs ++ ys) x) (has-right xs ys x h)
+pub use Rattle.xn_model.proofs.Has.{has-append, has-first, has-later, has-left, has-right}
 
 pub has-picked : (p : ℕ → Bool) (xs : List ℕ) (y : ℕ) → has (filter p xs) y ≡ true → (has xs y ≡ true) × (p y ≡ true)
 has-picked p [] y h = absurd (both_ways false refl h)

@@ -1,10 +1,11 @@
 -- One more element of a list among those that a test picks from it.
-use Rattle.std.proofs.Common.{◌≡◌, ◌≢◌, ℕ, suc, ◌≤◌, inl, inr, Bool, true, false, ◌||◌, eqb, List, [], ◌∷◌, length, refl, sym, ◌∙◌, ap, ap₂, arith}
-use Rattle.std.specs.List.{AllByRecursion, IsDistinct}
+use Rattle.std.proofs.Common.{◌≡◌, ℕ, suc, ◌≤◌, inl, inr, Bool, true, false, ◌||◌, eqb, List, [], ◌∷◌, length, refl, sym, ◌∙◌, ap, ap₂, arith}
+use Rattle.std.specs.List.{IsDistinct}
 use Rattle.std.specs.Prelude.{filter, insert, nat_eq}
 use Rattle.std.proofs.lemmas.Bool.{both_ways, cases_Bool, cases_eq, or_cases, eqb-true, eq-eqb, ne_eqb}
 use Rattle.std.proofs.lemmas.List.Sorted.{IsPermutation-insert, list_any-IsPermutation}
 use Rattle.xn_model.specs.Lists.{has}
+use Rattle.xn_model.proofs.Has.{all_not}
 
 -- tests that agree pick the same
 pub filter-congr : (p q : ℕ → Bool) (xs : List ℕ) → ((x : ℕ) → has xs x ≡ true → p x ≡ q x) → filter p xs ≡ filter q xs
@@ -21,14 +22,6 @@ filter-congr p q (x ∷ xs) same =
     later true b h = refl
     later false b h = h
 
--- none of the list is f
-pub none_is : (f : ℕ) (xs : List ℕ) → AllByRecursion (λ y. nat_eq f y ≡ false) xs → (y : ℕ) → has xs y ≡ true → f ≢ y
-none_is f [] all y h same = both_ways false refl h
-none_is f (x ∷ xs) all y h same = elim (or_cases (eqb x y) (has xs y) h) [
-  | inl here ↦ both_ways (eqb f x) all.0 (eq-eqb f x (same ∙ sym (eqb-true x y here)))
-  | inr later ↦ none_is f xs all.1 y later same
-]
-
 -- f besides: it stands at some position among what was picked
 pub picked_more : (t : ℕ → Bool) (f : ℕ) (xs : List ℕ) → IsDistinct nat_eq xs → has xs f ≡ true → t f ≡ false →
     (i : ℕ) × (i ≤ length (filter t xs)) × (filter (λ y. eqb f y || t y) xs ≡ insert (filter t xs) i f)
@@ -39,7 +32,7 @@ picked_more t f (x ∷ xs) distinct f_in out = elim (cases_eq x f) [
       let fails : t x ≡ false = ap t here ∙ out in
       let first : eqb f x ≡ true = eq-eqb f x (sym here) in
       let rest : filter (λ y. eqb f y || t y) xs ≡ filter t xs = filter-congr (λ y. eqb f y || t y) t xs (λ y y_in.
-      let other : eqb f y ≡ false = ne_eqb f y (λ same. none_is x xs distinct.0 y y_in (here ∙ same)) in
+      let other : eqb f y ≡ false = ne_eqb f y (λ same. all_not x xs distinct.0 y y_in (here ∙ same)) in
       rw other refl) in
       (0, omega arith, rw (first, fails) (ap₂ (λ h l. h ∷ l) here rest))
   | inr past ↦

@@ -1,12 +1,14 @@
 -- Lists that rise in some rank: two of them with the same elements are one.
-use Rattle.std.proofs.Common.{◌≡◌, ◌≢◌, ℕ, suc, ◌<◌, ◌≤◌, inl, inr, Bool, true, false, eqb, List, [], ◌∷◌, length, refl, sym, ◌∙◌, ap, ap₂, subst, arith}
+use Rattle.std.proofs.Common.{◌≡◌, ◌≢◌, ℕ, suc, ◌<◌, ◌≤◌, inl, inr, Bool, true, false, eqb, List, [], ◌∷◌, length, refl, sym, ◌∙◌, ap, ap₂, arith}
 use Rattle.std.specs.List.{AllByRecursion, AllPairs, IsDistinct}
 use Rattle.std.specs.List.Sorted.{IsStrictlyIncreasing}
-use Rattle.std.specs.Prelude.{All, filter, nat_eq, slice_index_or}
+use Rattle.std.specs.Prelude.{filter, nat_eq, slice_index_or}
 use Rattle.std.proofs.lemmas.Bool.{both_ways, cases_Bool, cases_eq, or_cases, cond-true, cond-false, eqb-false, eqb-true, eq-eqb, ne_eqb}
 use Rattle.std.proofs.lemmas.List.Kept.{AllPairs-from_increasing}
 use Rattle.xn_model.specs.Lists.{has, position_in}
-use Rattle.xn_fewer.proofs.Has.{has-first, has-later, has-picked}
+use Rattle.xn_model.proofs.Has.{has-first, has-later}
+pub use Rattle.xn_model.proofs.Has.{all_of, has-all}
+use Rattle.xn_fewer.proofs.Has.{has-picked}
 
 -- the rank rises along the list
 abbrev pub Rises : (ℕ → ℕ) → List ℕ → Type 0
@@ -17,24 +19,9 @@ Rises rank (x ∷ xs) = AllByRecursion (λ y. rank x < rank y) xs × Rises rank 
 abbrev pub Rising : List ℕ → Type 0
 Rising xs = Rises (λ x. x) xs
 
-pub all_of : (P : ℕ → Type 0) (xs : List ℕ) → AllByRecursion P xs → (y : ℕ) → has xs y ≡ true → P y
-all_of P [] all y h = absurd (both_ways false refl h)
-all_of P (x ∷ xs) all y h = elim (or_cases (eqb x y) (has xs y) h) [
-  | inl here ↦ subst P (eqb-true x y here) all.0
-  | inr later ↦ all_of P xs all.1 y later
-]
-
 pub all_made : (P : ℕ → Type 0) (xs : List ℕ) → ((y : ℕ) → has xs y ≡ true → P y) → AllByRecursion P xs
 all_made P [] each = tt
 all_made P (x ∷ xs) each = (each x (has-first x xs), all_made P xs (λ y h. each y (has-later x xs y h)))
-
--- what holds at each index holds of each element
-pub has-all : (P : ℕ → Type 0) (xs : List ℕ) → All P xs → (y : ℕ) → has xs y ≡ true → P y
-has-all P [] all y h = absurd (both_ways false refl h)
-has-all P (x ∷ xs) all y h = elim (or_cases (eqb x y) (has xs y) h) [
-  | inl here ↦ subst P (eqb-true x y here) (all 0 x (omega arith))
-  | inr later ↦ has-all P xs (λ k d k_in. all (suc k) d (omega arith)) y later
-]
 
 -- ---- lists that rise
 

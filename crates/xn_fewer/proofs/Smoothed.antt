@@ -7,10 +7,10 @@ use Rattle.xn_model.specs.Graph.{touches}
 use Rattle.xn_model.specs.Lists.{has}
 use Rattle.xn_model.specs.Map.{is_lone}
 use Rattle.xn_model.specs.Web.{segments_through}
+use Rattle.xn_model.proofs.Has.{all_not, has-first, has-later}
 use Rattle.xn_fewer.specs.Flat.{HasFlat}
 use Rattle.xn_fewer.proofs.PassedOver.{dropped_flat, joined_flat}
-use Rattle.xn_fewer.proofs.Has.{has-first, has-later, has-map, has-picked}
-use Rattle.xn_fewer.proofs.Placed.{none_is}
+use Rattle.xn_fewer.proofs.Has.{has-map, has-picked}
 
 -- ---- nodes that no segment of a list touches
 
@@ -73,7 +73,7 @@ module _ (nodes v : ℕ) (big : ℕ → ℕ) (keep : ℕ → Bool) (post : List 
 
   later_apart : (pre : List (ℕ × ℕ)) (u x : ℕ) (xs : List ℕ) → IsClear pre u (x ∷ xs) → (y : ℕ) → has xs y ≡ true → big x ≢ big y
   unfolding IsDistinct
-  later_apart pre u x xs clear y y_in same = none_is x xs clear.distinct.0 y y_in (clear.apart x y (has-first x xs) (has-later x xs y y_in) same)
+  later_apart pre u x xs clear y y_in same = all_not x xs clear.distinct.0 y y_in (clear.apart x y (has-first x xs) (has-later x xs y y_in) same)
 
   clear_on : (pre : List (ℕ × ℕ)) (u x : ℕ) (xs : List ℕ) → IsClear pre u (x ∷ xs) → IsClear (pre ++ (u, big x) ∷ []) (big x) xs
   unfolding IsDistinct
@@ -169,13 +169,13 @@ module _ (nodes : ℕ) (first last : ℕ → ℕ) (big : ℕ → ℕ → ℕ) (o
         apart = λ x y x_in y_in same. elim (ways.apart e x e y e_in e_in x_in y_in same) [ inl one ↦ one.1 | inr two ↦ two.1 ∙ two.0 ];
         lone_pre = λ x x_in goes. lone e x (has-first e es) x_in goes;
         lone_post = λ x x_in goes. lone-flat_map (way ord) es (big e x) (λ f f_in.
-            lone_elsewhere ways ord (λ g y y_in. y_in) e f x e_in (inside f f_in) (none_is e es distinct.0 f f_in) x_in goes);
+            lone_elsewhere ways ord (λ g y y_in. y_in) e f x e_in (inside f f_in) (all_not e es distinct.0 f f_in) x_in goes);
       } in
       let here = edge_smoothed nodes (last e) (big e) (has small) post (ord e) pre (first e) clear flat in
       let moved = subst (HasFlat nodes) (sym (append_assoc pre (way fewer e) post)) here in
       let rest = edges_smoothed ways es (pre ++ way fewer e) distinct.1 inside
       (λ f x f_in x_in goes. lone-append pre (way fewer e) (big f x) (lone f x (has-later e es f f_in) x_in goes)
-      (lone_elsewhere ways fewer (λ g y y_in. (has-picked (has small) (ord g) y y_in).0) f e x (inside f f_in) e_in (λ same. none_is e es distinct.0 f f_in (sym same)) x_in goes))
+      (lone_elsewhere ways fewer (λ g y y_in. (has-picked (has small) (ord g) y y_in).0) f e x (inside f f_in) e_in (λ same. all_not e es distinct.0 f f_in (sym same)) x_in goes))
       moved in
       subst (HasFlat nodes) (append_assoc pre (way fewer e) (flat_map (way fewer) es)) rest
 

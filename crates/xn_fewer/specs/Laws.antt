@@ -7,7 +7,7 @@ use Rattle.xn_model.specs.Orders.{IsOrders}
 use Rattle.xn_model.specs.Web.{web_of}
 
 -- the orders are those of ord, with the crossings among the edges of small alone
-pub record IsRestriction (edges small : List ℕ) (ord less : ℕ → List ℕ) : Type 0 where
+pub record RestrictsOrders (edges small : List ℕ) (ord less : ℕ → List ℕ) : Type 0 where
   pub inside : (e : ℕ) → has small e ≡ true → has edges e ≡ true
   pub kept : (e : ℕ) → has small e ≡ true → less e ≡ filter (has small) (ord e)
 
@@ -15,4 +15,4 @@ pub record IsRestriction (edges small : List ℕ) (ord less : ℕ → List ℕ) 
 abbrev pub FewerEdgesStayFlat : Type 0
 FewerEdgesStayFlat =
     (g : Graph) (edges small : List ℕ) (ord less : ℕ → List ℕ) (next : ℕ → ℕ) → IsGraph g → IsOrders g.ends edges ord → IsOrders g.ends small less →
-    IsRestriction edges small ord less → IsFlat (web_of g edges ord) next → (after : ℕ → ℕ) × IsFlat (web_of g small less) after
+    RestrictsOrders edges small ord less → IsFlat (web_of g edges ord) next → (after : ℕ → ℕ) × IsFlat (web_of g small less) after

@@ -1,6 +1,5 @@
 // Fractions in lowest terms.
-ghost use Rattle.std.specs.Prelude.{◌≡◌, ◌≢◌, ◌^◌, OnOk, OnSome, IfNone, IfSome, ◌<◌, ◌↔◌, ℤ, pos, neg_ℤ, ◌<ℤ◌, IsTrue, IfOk, IfErr, MatchOption, unsigned_abs};
-ghost use Rattle.std.specs.Int.{IsGcd};
+ghost use Rattle.std.specs.Prelude.{◌≡◌, ◌≢◌, ◌^◌, OnOk, OnSome, IfNone, IfSome, ◌<◌, ◌↔◌, ℤ, pos, neg_ℤ, ◌<ℤ◌, IsTrue, IfOk, IfErr, unsigned_abs};
 ghost use Rattle.xn_frac.specs.Ratio.{whole, ratio_of, plus, minus_of, minus, times, over, IsLess, IsFrac, IsFracOf, SumFits, CanAdd, CanSub, CanMul, CanDiv, IsRefused, inverse_of, sum_num, sum_den};
 ghost use Rattle.xn_frac.specs.Small.{IsShort};
 

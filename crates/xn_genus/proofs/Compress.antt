@@ -6,11 +6,12 @@ use Rattle.xn_model.specs.Graph.{EndsIn, ends_at, touches}
 use Rattle.xn_model.specs.Lists.{at}
 use Rattle.xn_model.specs.Map.{MeetsEuler, IsMap, component_count, component_labels, face_count, face_step, is_lone, reverse_of, tail_of}
 use Rattle.xn_model.specs.Permutation.{Permutes, Reaches, count_below, cycle_count, is_least, iterate}
+use Rattle.xn_model.proofs.Tests.{same_tests}
 use Rattle.xn_genus.specs.Live.{IsFlatOn, IsMapOn, faces_on, kept}
 use Rattle.xn_genus.specs.Part.{IsPart}
 use Rattle.xn_model.proofs.Darts.{cases_dart, reverse-even, reverse-odd, reverse_below, tail-even, tail-odd}
 use Rattle.xn_ring.proofs.Orbits.{IsLeast, IsLeast-from_test, least_of, least_unique, reaches_back, reaches_below, reaches_trans, test-from_IsLeast}
-use Rattle.xn_ring.proofs.Counting.{count-same, count_injects, count-all, same_tests, count-parts}
+use Rattle.xn_ring.proofs.Counting.{count-same, count_injects, count-all, count-parts}
 use Rattle.xn_genus.proofs.Counts.{Permutes-face}
 use Rattle.xn_genus.proofs.Kept.{Along, EndsIn-kept, EndsIn_at, along_kept_from, along_kept_to, any_kept_from, any_kept_to, component_count-same, same_components}
 use Rattle.xn_genus.proofs.Lone.{find_touch, touched_dart}

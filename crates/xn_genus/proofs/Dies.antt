@@ -7,10 +7,11 @@ use Rattle.xn_model.specs.Graph.{EndsIn, ends_at, touches}
 use Rattle.xn_model.specs.Lists.{at, one_if}
 use Rattle.xn_model.specs.Map.{face_step, is_lone, component_count, component_labels, reverse_of, tail_of}
 use Rattle.xn_model.specs.Permutation.{Permutes, iterate, cycle_count, count_below, Reaches, IsSplice, without}
+use Rattle.xn_model.proofs.Tests.{same_tests}
 use Rattle.xn_genus.specs.Live.{IsMapOn, kept}
 use Rattle.xn_model.proofs.Darts.{reverse-even, reverse-odd, reverse-reverse, reverse_below, cases_dart, tail-even, tail-odd}
 use Rattle.xn_ring.proofs.Orbits.{comes_back, iterate_below, reaches_back, reaches_trans, cases_reaches}
-use Rattle.xn_ring.proofs.Counting.{count-same, same_tests}
+use Rattle.xn_ring.proofs.Counting.{count-same}
 use Rattle.xn_ring.proofs.Splice.{Permutes-splice, cycle_count-joined, cycle_count-split}
 use Rattle.xn_ring.proofs.Without.{without-at, without-before, without-other, before, IsSplice-without, reaches-without}
 use Rattle.xn_genus.proofs.Counts.{stays_alone, cycle_count-alone, IsSplice-face, Permutes-face}

@@ -16,7 +16,7 @@ pub Permutes-reverse : (m : ℕ) → Permutes (2 * m) reverse_of
 Permutes-reverse m = record { below = reverse_below m; apart = λ d e d_in e_in same. reverse_apart d e same }
 
 -- each segment without a place is a face of its own
-cycle_count-reverse : (m : ℕ) → cycle_count (2 * m) reverse_of ≡ m
+pub cycle_count-reverse : (m : ℕ) → cycle_count (2 * m) reverse_of ≡ m
 cycle_count-reverse zero = refl
 cycle_count-reverse (suc m) =
     let more : 2 * suc m ≡ suc (suc (2 * m)) = omega arith in

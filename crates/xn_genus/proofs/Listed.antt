@@ -7,17 +7,11 @@ use Rattle.xn_model.specs.Graph.{ends_at}
 use Rattle.xn_model.specs.Lists.{at}
 use Rattle.xn_model.specs.Map.{reverse_of, tail_of}
 use Rattle.xn_genus.specs.Part.{AreDartsApart, AreSegmentsApart, IsPart, dart_along, dart_listed, ends_along, ends_listed}
-use Rattle.xn_model.proofs.Darts.{cases_dart, reverse-even, reverse-odd, reverse-reverse, reverse_below, tail-even, tail-odd}
+use Rattle.xn_model.proofs.Darts.{cases_dart, reverse-even, reverse-odd, reverse-reverse, reverse_below, reverse_other, tail-even, tail-odd}
 use Rattle.xn_genus.proofs.Compress.{half_reverse}
 
 ends_at-map : (f : ℕ → ℕ × ℕ) (xs : List ℕ) (i : ℕ) → i < length xs → ends_at (map f xs) i ≡ f (at xs i)
 ends_at-map f xs i i_in = get_or_default (map f xs) i (0, 0) (f 0) (omega (arith, i_in, length-map xs f)) ∙ get_or-map f xs i 0
-
-reverse_other : (d : ℕ) → reverse_of d ≢ d
-reverse_other d same = let c = cases_dart d in elim c.1 [
-  | inl even ↦ omega (arith, ap reverse_of even, reverse-even c.0, same, even)
-  | inr odd ↦ omega (arith, ap reverse_of odd, reverse-odd c.0, same, odd)
-]
 
 module _ (ends : List (ℕ × ℕ)) (darts : List ℕ) (is : AreDartsApart ends darts) where
   abbrev e : ℕ → ℕ

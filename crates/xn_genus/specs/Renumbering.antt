@@ -58,7 +58,8 @@ NodeComes =
     × (component_count (suc nodes) ends ≡ component_count nodes ends + 1)
 
 abbrev pub NodeComesFlat : Type 0
-NodeComesFlat = (nodes : ℕ) (ends : List (ℕ × ℕ)) (next : ℕ → ℕ) → IsMap nodes ends next → MeetsEuler nodes ends next → MeetsEuler (suc nodes) ends next
+NodeComesFlat =
+    (nodes : ℕ) (ends : List (ℕ × ℕ)) (next : ℕ → ℕ) → IsMap nodes ends next → MeetsEuler nodes ends next → MeetsEuler (suc nodes) ends next
 
 -- v has no dart and goes; the last node, of the number rest, takes its number
 pub record IsNodeRemoval (rest v : ℕ) (ends left : List (ℕ × ℕ)) : Type 0 where

@@ -4,7 +4,7 @@ use Rattle.xn_gml.specs.declared.errors.GmlErr.{GmlErr}
 use Rattle.xn_gml.specs.declared.token.Token.{Token}
 use Rattle.xn_gml.specs.Fronts.{IsFirstFlaw, EndsEarly}
 use Rattle.xn_gml.specs.Grammar.{grammar_from}
-use Rattle.xn_gml.specs.Lists.{pairs_of}
+use Rattle.xn_gml.specs.Lists.{listed_pairs}
 use Rattle.xn_gml.specs.Trees.{Pairs, ArePairs, EndsList, pairs_in, tokens_in}
 
 -- tokens that each can stand in its place are those of a list of pairs, with no list in 64 others
@@ -19,7 +19,9 @@ PairsAreOfGrammar = (end : ℕ) (pairs : Pairs) → ArePairs 64 pairs → gramma
 
 -- the pairs of a list are those of its tree, whatever comes after them: the end, or the list's `]`
 abbrev pub PairsAreOfTree : Type 0
-PairsAreOfTree = (room : ℕ) (pairs : Pairs) (rest : List Token) → ArePairs room pairs → EndsList rest → pairs_of (tokens_in pairs ++ rest) ≡ pairs_in pairs rest
+PairsAreOfTree =
+    (room : ℕ) (pairs : Pairs) (rest : List Token) → ArePairs room pairs → EndsList rest →
+    listed_pairs (tokens_in pairs ++ rest) ≡ pairs_in pairs rest
 
 -- a refusal by the grammar is that of the first token that can't stand in its place, or the text ends too early
 abbrev pub FlawIsFirst : Type 0

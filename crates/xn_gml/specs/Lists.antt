@@ -27,15 +27,15 @@ paired at (Word word) value list pairs = record { key = word; at = at; value = v
 paired at kind value list pairs = []
 
 -- the pairs up to the list's end, after so many inner lists are closed, whose tokens are passed over
-unfoldable pub pairs_from : ℕ → List Token → List Pair
-pairs_from inner [] = []
-pairs_from (suc inner) (t ∷ tokens) = pairs_from (opened t.kind (suc inner)) tokens
-pairs_from zero (k ∷ []) = []
-pairs_from zero (k ∷ value ∷ tokens) = paired k.at k.kind value tokens (pairs_from (opened value.kind 0) tokens)
+unfoldable pub listed_pairs_from : ℕ → List Token → List Pair
+listed_pairs_from inner [] = []
+listed_pairs_from (suc inner) (t ∷ tokens) = listed_pairs_from (opened t.kind (suc inner)) tokens
+listed_pairs_from zero (k ∷ []) = []
+listed_pairs_from zero (k ∷ value ∷ tokens) = paired k.at k.kind value tokens (listed_pairs_from (opened value.kind 0) tokens)
 
 -- the pairs of a list
-abbrev pub pairs_of : List Token → List Pair
-pairs_of tokens = pairs_from 0 tokens
+abbrev pub listed_pairs : List Token → List Pair
+listed_pairs tokens = listed_pairs_from 0 tokens
 
 abbrev pub is_open : Kind → Bool
 is_open Open = true
@@ -47,7 +47,7 @@ is_list_of key p = same_key p.key key && is_open p.value.kind
 
 -- the pairs of a list with this key whose value is a list
 abbrev pub lists_of : Key → List Token → List Pair
-lists_of key tokens = filter (is_list_of key) (pairs_of tokens)
+lists_of key tokens = filter (is_list_of key) (listed_pairs tokens)
 
 -- the value of the first of the pairs with this key
 abbrev pub first_in : Key → List Pair → Option Token
@@ -56,4 +56,4 @@ first_in key (p ∷ pairs) = if same_key p.key key then Some p.value else first_
 
 -- the first value of this key in a list
 abbrev pub first_of : Key → List Token → Option Token
-first_of key tokens = first_in key (pairs_of tokens)
+first_of key tokens = first_in key (listed_pairs tokens)

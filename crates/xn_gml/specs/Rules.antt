@@ -5,9 +5,9 @@ use Rattle.xn_gml.specs.Runs.{kind_of_run}
 use Rattle.xn_gml.specs.Tokens.{is_separator, is_line_end, is_quote, ends_run, token, tokens_from}
 
 -- no byte passes
-abbrev pub Lacks : (ℕ → Bool) → List ℕ → Type 0
-Lacks test [] = Unit {0}
-Lacks test (b ∷ bytes) = (test b ≡ false) × Lacks test bytes
+abbrev pub NonePasses : (ℕ → Bool) → List ℕ → Type 0
+NonePasses test [] = Unit {0}
+NonePasses test (b ∷ bytes) = (test b ≡ false) × NonePasses test bytes
 
 -- there is no byte, or the first passes
 abbrev pub IsStopped : (ℕ → Bool) → List ℕ → Type 0
@@ -21,7 +21,7 @@ SeparatorIsPassed = (at b : ℕ) (bytes : List ℕ) → is_separator b ≡ true 
 -- a comment is skipped up to the line's end
 abbrev pub CommentIsSkipped : Type 0
 CommentIsSkipped =
-    (at : ℕ) (text bytes : List ℕ) → Lacks is_line_end text → IsStopped is_line_end bytes →
+    (at : ℕ) (text bytes : List ℕ) → NonePasses is_line_end text → IsStopped is_line_end bytes →
     tokens_from 0 at (35 ∷ (text ++ bytes)) ≡ tokens_from 0 (at + 1 + length text) bytes
 
 -- a bracket is a token
@@ -33,16 +33,16 @@ BracketIsToken =
 -- a string is a token
 abbrev pub StringIsToken : Type 0
 StringIsToken =
-    (at : ℕ) (text bytes : List ℕ) → Lacks is_quote text →
+    (at : ℕ) (text bytes : List ℕ) → NonePasses is_quote text →
     tokens_from 0 at (34 ∷ (text ++ 34 ∷ bytes)) ≡ token at Quoted ∷ tokens_from 0 (at + 2 + length text) bytes
 
 -- a string that isn't closed is malformed, at the end of the text
 abbrev pub OpenStringIsMalformed : Type 0
 OpenStringIsMalformed =
-    (at : ℕ) (text : List ℕ) → Lacks is_quote text → tokens_from 0 at (34 ∷ text) ≡ token (at + 1 + length text) Malformed ∷ []
+    (at : ℕ) (text : List ℕ) → NonePasses is_quote text → tokens_from 0 at (34 ∷ text) ≡ token (at + 1 + length text) Malformed ∷ []
 
 -- a run is a token, as long as it can be
 abbrev pub RunIsToken : Type 0
 RunIsToken =
-    (at b : ℕ) (run bytes : List ℕ) → (b == 35) ≡ false → Lacks ends_run (b ∷ run) → IsStopped ends_run bytes →
+    (at b : ℕ) (run bytes : List ℕ) → (b == 35) ≡ false → NonePasses ends_run (b ∷ run) → IsStopped ends_run bytes →
     tokens_from 0 at (b ∷ (run ++ bytes)) ≡ token at (kind_of_run (b ∷ run)) ∷ tokens_from 0 (at + 1 + length run) bytes

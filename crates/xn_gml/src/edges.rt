@@ -3,7 +3,7 @@ ghost use Rattle.std.specs.Prelude.{◌≡◌, ◌+◌, ◌^◌, ◌<◌, ◌≤
 ghost use Rattle.indexmap.specs.IndexMap.{index_map_len, values};
 ghost use Rattle.xn_graph.specs.Limits.{HasNodes, IsEdge};
 ghost use Rattle.xn_gml.specs.declared.token.Key.TheVariants.{Edge};
-ghost use Rattle.xn_gml.specs.EdgeView.{edges_of};
+ghost use Rattle.xn_gml.specs.EdgeView.{edges_kept};
 ghost use Rattle.xn_gml.specs.Lists.{lists_of};
 ghost use Rattle.xn_gml.specs.Meaning.{known, number_of, nodes_of, with_edge, with_block, edges_from, no_edges};
 ghost use Rattle.xn_gml.specs.Reading.{Gives};
@@ -29,7 +29,7 @@ pub struct Edges {
 /// The edges of the edge blocks of a graph with these nodes. They may be at most 1,000, besides loops.
 pub fn edge_list(alloc: Global, ids: &IndexMap<i64, u32>, list: &Tokens) -> Result<Edges, GmlErr>
     requires { All (λ n. n < index_map_len ids.now) (values ids.now) }
-    ensures read { Gives edges_of result (edges_from 1000 ids.now.entries no_edges (lists_of Edge list.now)) }
+    ensures read { Gives edges_kept result (edges_from 1000 ids.now.entries no_edges (lists_of Edge list.now)) }
     ensures few { IfOk result (λ edges. length edges.ends.items ≤ 1000) }
     ensures inside { IfOk result (λ edges. All (IsEdge (index_map_len ids.now)) edges.ends.items) }
 {
@@ -52,7 +52,7 @@ fn with_block(ids: &IndexMap<i64, u32>, edges: Edges, block: &Pair) -> Result<Ed
     requires loops { edges.loops < 2 ^ 63 }
     requires few { length edges.ends.items ≤ 1000 }
     requires inside { All (IsEdge (index_map_len ids.now)) edges.ends.items }
-    ensures read { Gives edges_of result (with_block 1000 ids.now.entries (edges_of edges) block.now) }
+    ensures read { Gives edges_kept result (with_block 1000 ids.now.entries (edges_kept edges) block.now) }
     ensures loops { IfOk result (λ more. more.loops ≤ edges.loops + 1) }
     ensures few { IfOk result (λ more. length more.ends.items ≤ 1000) }
     ensures inside { IfOk result (λ more. All (IsEdge (index_map_len ids.now)) more.ends.items) }
@@ -95,7 +95,7 @@ fn with_edge(ids: &IndexMap<i64, u32>, mut edges: Edges, e: (u32, u32)) -> Resul
     requires loops { edges.loops < 2 ^ 63 }
     requires few { length edges.ends.items ≤ 1000 }
     requires inside { All (IsEdge (index_map_len ids.now)) edges.ends.items }
-    ensures read { Gives edges_of result (with_edge 1000 (edges_of edges) e) }
+    ensures read { Gives edges_kept result (with_edge 1000 (edges_kept edges) e) }
     ensures loops { IfOk result (λ more. more.loops ≤ edges.loops + 1) }
     ensures few { IfOk result (λ more. length more.ends.items ≤ 1000) }
     ensures inside { IfOk result (λ more. All (IsEdge (index_map_len ids.now)) more.ends.items) }

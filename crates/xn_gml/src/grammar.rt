@@ -1,5 +1,5 @@
 // The first pass: whether each token can stand in its place.
-ghost use Rattle.std.specs.Prelude.{◌≡◌, ◌+◌, ◌^◌, ◌≤◌, ◌<◌, IfErr};
+ghost use Rattle.std.specs.Prelude.{◌≡◌, ◌+◌, ◌^◌, ◌≤◌, ◌<◌};
 ghost use Rattle.xn_gml.specs.Grammar.{stands, awaits, opened, grammar_of};
 
 use crate::errors::GmlErr;

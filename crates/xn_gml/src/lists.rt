@@ -1,6 +1,6 @@
 // The pairs of a list, which is given by the tokens after its `[`.
 ghost use Rattle.std.specs.Prelude.{◌≡◌, ◌<◌, ◌≤◌, [], ◌∷◌, IfNone, IfSome, length};
-ghost use Rattle.xn_gml.specs.Lists.{key_number, same_key, pairs_from, pairs_of, is_open, is_list_of, lists_of, first_of};
+ghost use Rattle.xn_gml.specs.Lists.{key_number, same_key, listed_pairs_from, listed_pairs, is_open, is_list_of, lists_of, first_of};
 
 use crate::grammar::opened;
 use crate::pair::Pair;
@@ -35,10 +35,10 @@ pub fn first_of(key: Key, list: &Tokens) -> Option<Token>
 }
 
 // The next pair of a list. The pairs inside its value are passed over.
-#[tactic(auto, unfolding(crate::specs::Lists::pairs_from))]
+#[tactic(auto, unfolding(crate::specs::Lists::listed_pairs_from))]
 fn next_pair<'a>(tokens: &mut Tokens<'a>) -> Option<Pair<'a>>
-    ensures none { IfNone result (pairs_of tokens.old ≡ []) }
-    ensures some { IfSome result (λ p. pairs_of tokens.old ≡ p ∷ pairs_of tokens.new) }
+    ensures none { IfNone result (listed_pairs tokens.old ≡ []) }
+    ensures some { IfSome result (λ p. listed_pairs tokens.old ≡ p ∷ listed_pairs tokens.new) }
     ensures shorter { IfSome result (λ p. length tokens.new < length tokens.old) }
 {
     let key = tokens.next()?;
@@ -60,7 +60,7 @@ fn next_pair<'a>(tokens: &mut Tokens<'a>) -> Option<Pair<'a>>
 
 // Passes over the rest of a list.
 fn skip_list(tokens: &mut Tokens)
-    ensures skipped { pairs_from 0 tokens.new ≡ pairs_from 1 tokens.old }
+    ensures skipped { listed_pairs_from 0 tokens.new ≡ listed_pairs_from 1 tokens.old }
     ensures shorter { length tokens.new ≤ length tokens.old }
 {
     let _most = tokens.left();

@@ -3,7 +3,7 @@ ghost use Rattle.std.specs.Prelude.{◌≡◌, ◌^◌, ◌<◌, ◌≤◌, true
 ghost use Rattle.std.specs.List.{list_all};
 ghost use Rattle.std.specs.Char.{is_ascii_digit};
 ghost use Rattle.std.specs.Str.Parse.{digits_value};
-ghost use Rattle.xn_gml.specs.Runs.{is_letter, is_word_byte, is_word, key_of, is_sign, unsigned, is_digits, is_dot, is_decimal, is_e, is_scaled, signed, integer_of, kind_of_run};
+ghost use Rattle.xn_gml.specs.Runs.{is_letter, is_word_byte, is_word, key_of, unsigned, is_digits, is_dot, is_decimal, is_e, is_scaled, signed, integer_of, kind_of_run};
 
 use crate::token::{Key, Kind};
 

@@ -50,7 +50,7 @@ pairs-step g e below =
     ∙ ap (λ ps. ps ++ pairs_of g.ends later) (filter-pairs g.ends e later)
 
 -- a list of n has n * (n - 1) / 2 pairs
-length-each_two : (es : List ℕ) → 2 * length (each_two es) + length es ≡ length es * length es
+pub length-each_two : (es : List ℕ) → 2 * length (each_two es) + length es ≡ length es * length es
 length-each_two [] = refl
 length-each_two (e ∷ es) =
     let g : ℕ → ℕ × ℕ = λ f. (e, f) in

@@ -1,4 +1,4 @@
-// The files of the system and its standard output, of which no contract says what they hold.
+// The files of the system and its outputs, of which no contract says what they hold.
 ghost use Rattle.std.specs.Prelude.{◌≡◌, None};
 ghost use Rattle.std.specs.Option.{option_map};
 ghost use Rattle.std.specs.String.{string_bytes};
@@ -83,7 +83,8 @@ impl<'a, R: Files> Input for FileInput<'a, R> {
     }
 }
 
-/// The standard output. It tells nothing of what it took, and each error of the system is a fault.
+/// The standard output of the system, or its standard error. It tells nothing of what it took, and
+/// each error of the system is a fault.
 #[derive(Drop)]
 pub struct StdSink<'a, R: Print> {
     host: &'a R,

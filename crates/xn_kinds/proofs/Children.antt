@@ -1,13 +1,15 @@
 -- The children of a node that keeps its rule have states of the graph.
-use Rattle.std.proofs.Common.{◌≡◌, ℕ, suc, ◌<◌, inl, inr, Bool, true, false, ◌&&◌, ◌||◌, eqb, List, [], ◌∷◌, length, refl, sym, subst, ap, ◌∙◌}
+use Rattle.std.proofs.Common.{◌≡◌, ℕ, suc, ◌<◌, inl, inr, Bool, true, false, ◌&&◌, eqb, List, [], ◌∷◌, length, refl, sym, subst, ap, ◌∙◌}
 use Rattle.std.specs.Prelude.{Some, None, insert, nat_eq}
-use Rattle.std.specs.List.{AllByRecursion, IsDistinct, range_with_len}
-use Rattle.std.proofs.lemmas.Bool.{both_ways, cases_Bool, cases_eq, cond-false, eq-eqb, eqb-true, ne_eqb, or_cases, and_parts}
+use Rattle.std.specs.List.{IsDistinct, range_with_len}
+use Rattle.std.proofs.lemmas.Bool.{both_ways, cases_Bool, cond-false, eqb-true, or_cases, and_parts}
 use Rattle.std.proofs.lemmas.List.Elements.{All-cons, All-map, All-nil}
 use Rattle.std.proofs.lemmas.List.Sorted.{IsPermutation-insert, list_any-IsPermutation}
 use Rattle.std.proofs.lemmas.Map.Keys.{IsDistinct-cons, IsDistinct-IsPermutation}
 use Rattle.xn_model.specs.Graph.{Graph, Independent}
 use Rattle.xn_model.specs.Lists.{has}
+use Rattle.xn_model.proofs.Tests.{eqb-flip}
+use Rattle.xn_model.proofs.Has.{unlike_each}
 use Rattle.xn_kinds.specs.Laws.{ChildrenAreStates, EmptyIsState}
 use Rattle.xn_kinds.specs.State.{State, Crosses, IsState, decide, place}
 use Rattle.xn_kinds.specs.declared.trees.Node.TheVariants.{Pair, Place, Leaf}
@@ -58,23 +60,6 @@ module _ (g : Graph) (s : State) (is_state : IsState g s) (e f : ℕ) (x : Bool)
   }
 
 -- ---- an edge is placed
-
-eqb-flip : (x y : ℕ) → eqb x y ≡ eqb y x
-eqb-flip x y = elim (cases_eq x y) [
-  | inl same ↦ eq-eqb x y same ∙ sym (eq-eqb y x (sym same))
-  | inr differ ↦ ne_eqb x y differ ∙ sym (ne_eqb y x (λ same. differ (sym same)))
-]
-
-neither : (a b : Bool) → (a || b) ≡ false → (a ≡ false) × (b ≡ false)
-neither true b h = absurd (both_ways true h refl)
-neither false b h = (refl, h)
-
--- a number that isn't in the list is none of its elements
-unlike_each : (f : ℕ) (xs : List ℕ) → has xs f ≡ false → AllByRecursion (λ y. nat_eq f y ≡ false) xs
-unlike_each f [] out = tt
-unlike_each f (x ∷ xs) out =
-    let parts : (eqb x f ≡ false) × (has xs f ≡ false) = neither _ _ out in
-    (eqb-flip f x ∙ parts.0, unlike_each f xs parts.1)
 
 -- a number that isn't in the list may be put in anywhere
 IsDistinct-insert : (xs : List ℕ) (i f : ℕ) → has xs f ≡ false → IsDistinct nat_eq xs → IsDistinct nat_eq (insert xs i f)

@@ -1,17 +1,14 @@
 -- The values that a state gives, and one value where it gives none.
-use Rattle.std.proofs.Common.{ℕ, ◌≤◌, Bool, true, false, refl, ap, arith}
+use Rattle.std.proofs.Common.{ℕ, ◌≤◌, Bool, refl, ap}
 use Rattle.std.specs.Prelude.{Option, Some, None}
 use Rattle.xn_model.specs.Lists.{one_if, stands_before}
+use Rattle.xn_model.proofs.Tests.{one_if-le}
 use Rattle.xn_kinds.specs.Row.{Values}
 use Rattle.xn_kinds.specs.State.{State, InBox}
 
 abbrev value_or : ℕ → Option Bool → ℕ
 value_or z None = z
 value_or z (Some x) = one_if x
-
-pub one_if-le : (b : Bool) → one_if b ≤ 1
-one_if-le true = omega arith
-one_if-le false = omega arith
 
 value_or-le : (z : ℕ) → z ≤ 1 → (o : Option Bool) → value_or z o ≤ 1
 value_or-le z small None = small

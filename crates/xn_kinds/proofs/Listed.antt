@@ -2,12 +2,13 @@
 use Rattle.std.proofs.Common.{◌≡◌, ℕ, ◌+◌, ◌≤◌, inl, inr, true, false, eqb, List, [], ◌∷◌, length, refl, subst, arith}
 use Rattle.std.specs.List.{AllByRecursion, IsDistinct, range_with_len}
 use Rattle.std.specs.Prelude.{nat_eq, All}
-use Rattle.std.proofs.lemmas.Bool.{both_ways, cases_Bool, or_cases, eqb-true}
+use Rattle.std.proofs.lemmas.Bool.{both_ways, cases_Bool, eqb-true}
 use Rattle.std.proofs.lemmas.List.Elements.{All-cons, All-nil}
 use Rattle.std.proofs.lemmas.List.FromFn.{length-range_with_len, get_or-range_with_len}
 use Rattle.xn_model.specs.Graph.{Independent}
 use Rattle.xn_model.specs.Lists.{has}
 use Rattle.xn_model.specs.Orders.{IsEdgeList, IsOrders, order_at}
+use Rattle.xn_model.proofs.Has.{all_of}
 
 -- P holds of each edge and each entry of its list
 abbrev pub EachEntry : (ℕ → ℕ → Type 0) → List ℕ → List (List ℕ) → Type 0
@@ -25,19 +26,12 @@ abbrev pub EachDistinct : List (List ℕ) → Type 0
 EachDistinct [] = Unit {0}
 EachDistinct (l ∷ ls) = IsDistinct nat_eq l × EachDistinct ls
 
-of_list : (P : ℕ → Type 0) (l : List ℕ) → AllByRecursion P l → (f : ℕ) → has l f ≡ true → P f
-of_list P [] each f h = absurd (both_ways false refl h)
-of_list P (x ∷ xs) each f h = elim (or_cases (eqb x f) (has xs f) h) [
-  | inl here ↦ subst P (eqb-true x f here) each.0
-  | inr later ↦ of_list P xs each.1 f later
-]
-
 pub of_entries : (P : ℕ → ℕ → Type 0) (edges : List ℕ) (lists : List (List ℕ)) → EachEntry P edges lists →
     (e f : ℕ) → has (order_at edges lists e) f ≡ true → P e f
 of_entries P [] lists each e f h = absurd (both_ways false refl h)
 of_entries P (x ∷ xs) [] each e f h = absurd (both_ways false refl h)
 of_entries P (x ∷ xs) (l ∷ ls) each e f h = elim (cases_Bool (eqb x e)) [
-  | inl here ↦ of_list (P e) l (subst (λ v. AllByRecursion (P v) l) (eqb-true x e here) each.0) f (rw here at h)
+  | inl here ↦ all_of (P e) l (subst (λ v. AllByRecursion (P v) l) (eqb-true x e here) each.0) f (rw here at h)
   | inr later ↦ of_entries P xs ls each.1 e f (rw later at h)
 ]
 

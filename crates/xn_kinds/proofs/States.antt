@@ -2,8 +2,8 @@
 use Rattle.std.proofs.Common.{◌≡◌, ℕ, List, [], ◌∷◌, refl, sym, ap, ◌∙◌}
 use Rattle.std.specs.Prelude.{filter}
 use Rattle.xn_model.specs.Lists.{has, one_if, stands_before}
+use Rattle.xn_model.proofs.Tests.{one_if-le}
 use Rattle.xn_kinds.specs.Laws.{AllLieInEmpty, ValuesAreInTheBox}
-use Rattle.xn_kinds.proofs.Given.{one_if-le}
 use Rattle.xn_kinds.proofs.Stands.{stands_before-filter}
 
 filter-none : (xs : List ℕ) → filter (has []) xs ≡ []

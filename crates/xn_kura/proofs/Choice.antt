@@ -7,7 +7,7 @@ use Rattle.xn_model.specs.Graph.{ends_at}
 use Rattle.xn_model.specs.Lists.{has, one_if}
 use Rattle.xn_model.specs.Permutation.{count_below}
 use Rattle.xn_ring.proofs.Orbits.{first_below}
-use Rattle.xn_kura.proofs.Distinct.{has-at}
+use Rattle.xn_model.proofs.Has.{has-at}
 use Rattle.xn_kura.proofs.Pairs.{all_below, all_below_at, all_below_from}
 use Rattle.xn_kura.proofs.Tally.{count-le_cover, distinct-le}
 

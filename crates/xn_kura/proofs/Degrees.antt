@@ -10,7 +10,8 @@ use Rattle.xn_model.specs.Map.{reverse_of, tail_of}
 use Rattle.xn_model.specs.Permutation.{count_below}
 use Rattle.xn_model.proofs.Darts.{cases_dart, reverse-even, reverse-odd}
 use Rattle.xn_genus.proofs.Counts.{count_below-drop}
-use Rattle.xn_kura.proofs.Distinct.{all_not, distinct-apart, distinct-count, distinct-left, distinct-right, has-append, has-at, has-left, has-right, positions_apart}
+use Rattle.xn_model.proofs.Has.{all_not, has-append, has-at, has-left, has-right}
+use Rattle.xn_kura.proofs.Distinct.{distinct-apart, distinct-count, distinct-left, distinct-right, positions_apart}
 use Rattle.xn_kura.proofs.Pairs.{ArePairs}
 use Rattle.xn_kura.proofs.Path.{count_at, darts, out, out_facts}
 use Rattle.xn_kura.proofs.Tally.{count-le_count_if, count_if, count_if-append}

@@ -1,41 +1,11 @@
 -- Lists without repeats, and membership in them.
-use Rattle.std.proofs.Common.{◌≡◌, ◌≢◌, ℕ, zero, suc, ◌<◌, ◌≤◌, ◌⊎◌, inl, inr, false, true, eqb, List, [], ◌∷◌, ◌++◌, length, refl, sym, ◌∙◌, ap, arith}
+use Rattle.std.proofs.Common.{◌≡◌, ◌≢◌, ℕ, zero, suc, ◌<◌, ◌≤◌, inl, inr, false, true, eqb, List, [], ◌∷◌, ◌++◌, length, refl, sym, ◌∙◌, ap, arith}
 use Rattle.std.specs.List.{AllByRecursion, IsDistinct}
 use Rattle.std.specs.Prelude.{slice_index}
-use Rattle.std.proofs.lemmas.Bool.{cases_eq, both_ways, or_cases, or_left, or_right, eqb-true, eqb-false, eq-eqb, ne_eqb}
+use Rattle.std.proofs.lemmas.Bool.{cases_eq, both_ways, or_cases, or_left, or_right, eqb-true, eq-eqb, ne_eqb}
 use Rattle.xn_model.specs.Lists.{has, one_if}
+use Rattle.xn_model.proofs.Has.{all_not, has-at, has-right}
 use Rattle.xn_kura.proofs.Tally.{count_if}
-
--- membership in joined lists
-pub has-append : (xs ys : List ℕ) (x : ℕ) → has (xs ++ ys) x ≡ true → (has xs x ≡ true) ⊎ (has ys x ≡ true)
-has-append [] ys x h = inr h
-has-append (y ∷ xs) ys x h = elim (or_cases (eqb y x) (has (xs ++ ys) x) h) [
-  | inl here ↦ inl (or_left (eqb y x) (has xs x) here)
-  | inr later ↦ elim (has-append xs ys x later) [ inl a ↦ inl (or_right (eqb y x) (has xs x) a) | inr b ↦ inr b ]
-]
-
-pub has-left : (xs ys : List ℕ) (x : ℕ) → has xs x ≡ true → has (xs ++ ys) x ≡ true
-has-left [] ys x h = absurd (both_ways false refl h)
-has-left (y ∷ xs) ys x h = elim (or_cases (eqb y x) (has xs x) h) [
-  | inl here ↦ or_left (eqb y x) (has (xs ++ ys) x) here
-  | inr later ↦ or_right (eqb y x) (has (xs ++ ys) x) (has-left xs ys x later)
-]
-
-pub has-right : (xs ys : List ℕ) (x : ℕ) → has ys x ≡ true → has (xs ++ ys) x ≡ true
-has-right [] ys x h = h
-has-right (y ∷ xs) ys x h = or_right (eqb y x) (has (xs ++ ys) x) (has-right xs ys x h)
-
-pub has-at : (xs : List ℕ) (i : ℕ) → i < length xs → has xs (slice_index xs i) ≡ true
-has-at [] i below = absurd (omega arith)
-has-at (x ∷ xs) zero below = or_left (eqb x x) _ (eq-eqb x x refl)
-has-at (x ∷ xs) (suc i) below = or_right (eqb x (slice_index xs i)) (has xs (slice_index xs i)) (has-at xs i (omega arith))
-
-pub all_not : (x : ℕ) (xs : List ℕ) → AllByRecursion (λ y. eqb x y ≡ false) xs → (y : ℕ) → has xs y ≡ true → x ≢ y
-all_not x [] all y h same = both_ways false refl h
-all_not x (z ∷ zs) all y h same = elim (or_cases (eqb z y) (has zs y) h) [
-  | inl here ↦ eqb-false x z all.0 (same ∙ sym (eqb-true z y here))
-  | inr later ↦ all_not x zs all.1 y later same
-]
 
 pub distinct-left : (xs ys : List ℕ) → IsDistinct eqb (xs ++ ys) → IsDistinct eqb xs
 unfolding IsDistinct

@@ -15,12 +15,13 @@ use Rattle.xn_genus.specs.Live.{IsMapOn, kept, passing_over}
 use Rattle.xn_kinds.specs.Row.{EvidenceHolds}
 use Rattle.xn_kinds.specs.declared.rows.Evidence.{Evidence}
 use Rattle.xn_kinds.specs.declared.rows.Evidence.TheVariants.{Extension, Five, ThreeThree}
+use Rattle.xn_model.proofs.Counts.{count-not}
 use Rattle.xn_kura.specs.Flaws.{HasAKind}
 use Rattle.xn_kura.proofs.Bound.{cycles_bound, face_permutes}
 use Rattle.xn_kura.proofs.Faces.{four_in_each, inner_length, live_node, marked_few, some_live, three_in_each}
 use Rattle.xn_kura.proofs.LoneComponents.{lone-lt_components}
 use Rattle.xn_kura.proofs.Pairs.{ArePairs, all_below_at, pairs_by_test}
-use Rattle.xn_kura.proofs.Tally.{count-le_cover, count-not, distinct-le}
+use Rattle.xn_kura.proofs.Tally.{count-le_cover, distinct-le}
 use Rattle.xn_kura.proofs.UsedPaths.{used_in}
 
 module _ (web : Graph) (branch : List ℕ) (pairs : List (ℕ × ℕ)) (paths : List (List ℕ)) (are : ArePairs (length branch) pairs)

@@ -13,7 +13,8 @@ use Rattle.xn_model.proofs.Darts.{reverse-reverse}
 use Rattle.xn_ring.proofs.Orbits.{reaches_step, reaches_trans}
 use Rattle.xn_ring.specs.Parts.{HoldsMarks}
 use Rattle.xn_genus.specs.Live.{IsMapOn}
-use Rattle.xn_kura.proofs.Distinct.{distinct-apart, distinct-count, distinct-left, distinct-right, has-at, has-left, has-right, positions_apart}
+use Rattle.xn_model.proofs.Has.{has-at, has-left, has-right}
+use Rattle.xn_kura.proofs.Distinct.{distinct-apart, distinct-count, distinct-left, distinct-right, positions_apart}
 use Rattle.xn_kura.proofs.Pairs.{ArePairs}
 use Rattle.xn_kura.proofs.Path.{comes, dart_cases, dart_on, from_any, goes, last_of, last_tail, out_facts, start_of}
 use Rattle.xn_kura.proofs.Tally.{count-le_count_if, count-le_cover, count_if}

@@ -11,10 +11,11 @@ use Rattle.xn_model.specs.Permutation.{count_below}
 use Rattle.xn_kinds.specs.Row.{EvidenceHolds}
 use Rattle.xn_kinds.specs.declared.rows.Evidence.{Evidence}
 use Rattle.xn_kinds.specs.declared.rows.Evidence.TheVariants.{Five, ThreeThree}
+use Rattle.xn_model.proofs.Has.{has-append, has-at}
 use Rattle.xn_kura.proofs.Branches.{place_of}
 use Rattle.xn_kura.proofs.Choice.{distinct_within, has-values, in_first, in_second, joins, joins-some, length-values, some-joins, values_at}
 use Rattle.xn_kura.proofs.Degrees.{degree_in}
-use Rattle.xn_kura.proofs.Distinct.{has-append, has-at, positions_apart}
+use Rattle.xn_kura.proofs.Distinct.{positions_apart}
 use Rattle.xn_kura.proofs.Pairs.{ArePairs, all_below, all_below_at, pairs_by_test}
 use Rattle.xn_kura.proofs.Proposals.{all_by_length, length_by_all}
 use Rattle.xn_kura.proofs.Turned.{distinct-append}

@@ -11,13 +11,13 @@ mod Landmarks
 mod LoneComponents
 mod MarkedPaths
 mod Marking
-mod Pairs
+pub mod Pairs
 mod Path
 mod Proposals
 pub mod Stages
 mod Tally
 mod Tracing
-mod Turned
+pub mod Turned
 mod Turns
 mod UsedPaths
 mod Walking

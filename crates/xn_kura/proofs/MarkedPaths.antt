@@ -8,7 +8,8 @@ use Rattle.std.proofs.lemmas.List.Elements.{All-from_get_or}
 use Rattle.std.proofs.lemmas.List.Folds.{concat-append}
 use Rattle.xn_model.specs.Evidence.{all_inner, inner_nodes}
 use Rattle.xn_model.specs.Lists.{has}
-use Rattle.xn_kura.proofs.Distinct.{distinct-apart, has-at}
+use Rattle.xn_model.proofs.Has.{has-at}
+use Rattle.xn_kura.proofs.Distinct.{distinct-apart}
 use Rattle.xn_kura.proofs.Marking.{MarksMore-trans, StopsAt-between, distinct-from_marks, repeat-from_marks}
 use Rattle.xn_kura.proofs.Walking.{around}
 use Rattle.xn_kura.specs.Flaws.{IsFirstRepeat, begins_at, path_at}

@@ -5,7 +5,7 @@ use Rattle.std.proofs.lemmas.Bool.{cases_eq, both_ways, false_from_ne_true, or_c
 use Rattle.std.proofs.lemmas.List.{append-nil, get_or-set_same, get_or-set_other}
 use Rattle.std.proofs.lemmas.List.Folds.{list_any-append}
 use Rattle.xn_model.specs.Lists.{has}
-use Rattle.xn_kura.proofs.Distinct.{has-left}
+use Rattle.xn_model.proofs.Has.{has-left}
 use Rattle.xn_kura.specs.Flaws.{IsFirstRepeat}
 use Rattle.xn_kura.specs.Marks.{Clears, MarksExactly, MarksMore, MarksWithin, StopsAt, is_marked}
 
@@ -104,9 +104,6 @@ repeat-from_marks old new xs x none stops =
     ((stops.0, stops.1, stops.2, found.1, stops.4 [] none tt), within)
 
 -- ---- marks taken away
-
-pub Clears-none : (old : List Bool) → Clears old [] old
-Clears-none old rest within = within
 
 pub Clears-trans : (a b c : List Bool) (xs ys : List ℕ) → Clears a xs b → Clears b ys c → Clears a (xs ++ ys) c
 Clears-trans a b c xs ys first second rest within =

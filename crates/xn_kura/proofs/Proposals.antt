@@ -9,7 +9,8 @@ use Rattle.std.proofs.lemmas.List.{get_or_append_left, get_or_at, length-map, ma
 use Rattle.xn_list.specs.Lists.{lists_of}
 use Rattle.xn_model.specs.Lists.{has}
 use Rattle.xn_ring.proofs.Counting.{count-all}
-use Rattle.xn_kura.proofs.Distinct.{distinct-apart, has-append, has-left, has-right}
+use Rattle.xn_model.proofs.Has.{has-append, has-left, has-right}
+use Rattle.xn_kura.proofs.Distinct.{distinct-apart}
 use Rattle.xn_kura.proofs.MarkedPaths.{concat_around, concat_more}
 use Rattle.xn_kura.proofs.Marking.{distinct-push}
 use Rattle.xn_kura.proofs.Tally.{count-le_cover, distinct-le}

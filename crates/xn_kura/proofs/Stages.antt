@@ -18,7 +18,7 @@ use Rattle.xn_kura.proofs.UsedPaths.{lead_at}
 use Rattle.xn_kura.specs.Flaws.{AreBranches, HasAKind, IsFirstEvidenceFlaw, IsFirstFlawOf, IsFirstRepeat, IsFirstWrong, LeadBefore, begins_at, goes_to, path_at}
 
 -- a walk ends at one node
-same_end : (ends : List (ℕ × ℕ)) (u v w : ℕ) (path : List ℕ) → LeadsTo ends u path v → LeadsTo ends u path w → v ≡ w
+pub same_end : (ends : List (ℕ × ℕ)) (u v w : ℕ) (path : List ℕ) → LeadsTo ends u path v → LeadsTo ends u path w → v ≡ w
 same_end ends u v w [] one two = sym one ∙ two
 same_end ends u v w (s ∷ path) one two = same_end ends (far_end (ends_at ends s) u) v w path one.2 two.2
 

@@ -54,13 +54,6 @@ count-le_cover n p (x ∷ xs) cover =
     and-true true = refl
     and-true false = refl
 
--- what passes and what does not
-pub count-not : (n : ℕ) (p : ℕ → Bool) → count_below n p + count_below n (λ x. not (p x)) ≡ n
-count-not zero p = refl
-count-not (suc n) p =
-    let top : one_if (p n) + one_if (not (p n)) ≡ 1 = elim (p n) as (λ b. one_if b + one_if (not b) ≡ 1) [ true ↦ refl | false ↦ refl ] in
-    omega (arith, count-not n p, top)
-
 -- a test of even numbers alone
 pub count-even : (k : ℕ) (p : ℕ → Bool) (q : ℕ → Bool) → ((s : ℕ) → s < k → p (2 * s) ≡ true → q s ≡ true) → ((s : ℕ) → s < k → p (2 * s + 1) ≡ false) → count_below (2 * k) p ≤ count_below k q
 count-even zero p q even odd = omega arith

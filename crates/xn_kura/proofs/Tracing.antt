@@ -8,11 +8,12 @@ use Rattle.xn_model.specs.Evidence.{LeadsTo, far_end, inner_nodes}
 use Rattle.xn_model.specs.Graph.{Graph, ends_at, touches}
 use Rattle.xn_model.specs.Lists.{at, has}
 use Rattle.xn_model.specs.Map.{reverse_of, tail_of}
+use Rattle.xn_model.proofs.Counts.{count-not}
 use Rattle.xn_kura.proofs.Distinct.{positions_apart}
 use Rattle.xn_kura.proofs.Path.{out, out_facts}
-use Rattle.xn_kura.proofs.Tally.{count-not, distinct-le}
+use Rattle.xn_kura.proofs.Tally.{distinct-le}
 use Rattle.xn_kura.proofs.Walking.{inner_step, step}
-use Rattle.xn_kura.specs.Straight.{IsStraight, dart_from}
+use Rattle.xn_kura.specs.Straight.{IsStraight}
 use Rattle.xn_model.specs.Loose.{dart_count}
 use Rattle.xn_graph.specs.Stars.{darts_of}
 use Rattle.xn_graph.proofs.DartsOf.{darts_of-at, darts_of-has, length-darts_of}
@@ -84,11 +85,6 @@ pub record IsOnPath (ends : List (ℕ × ℕ)) (path : List ℕ) (v k dart : ℕ
   pub leads : LeadsTo ends node (drop k path) v
   pub here : dart ≡ out ends node (get_or path k 0)
   pub through : (w : ℕ) → has (inner_nodes ends node (drop k path)) w ≡ true → dart_count ends w ≡ 2
-
-pub on_path-start : (ends : List (ℕ × ℕ)) (u : ℕ) (path : List ℕ) (v d : ℕ) → IsStraight ends u path v → dart_from ends u path ≡ d → IsOnPath ends path v 0 d []
-on_path-start ends u [] v d straight from = absurd (omega (arith, straight.some))
-on_path-start ends u (s ∷ path) v d straight from =
-    record { node = u; before = straight.some; passed = refl; leads = straight.leads; here = sym from; through = straight.through }
 
 module _ (ends : List (ℕ × ℕ)) (path : List ℕ) (v k dart : ℕ) (done : List ℕ) (on : IsOnPath ends path v k dart done) where
   abbrev s : ℕ

@@ -7,8 +7,9 @@ use Rattle.std.proofs.lemmas.List.{length-reverse, reverse-append}
 use Rattle.xn_model.specs.Evidence.{IsPathSystem, LeadAll, LeadsTo, all_inner, far_end, inner_nodes}
 use Rattle.xn_model.specs.Graph.{Graph, ends_at, touches}
 use Rattle.xn_model.specs.Lists.{has}
+use Rattle.xn_model.proofs.Has.{all_not, has-append, has-left, has-right}
 use Rattle.xn_kura.proofs.Branches.{place_of}
-use Rattle.xn_kura.proofs.Distinct.{all_not, distinct-apart, distinct-right, has-append, has-left, has-right}
+use Rattle.xn_kura.proofs.Distinct.{distinct-apart, distinct-right}
 use Rattle.xn_kura.proofs.MarkedPaths.{All-from_has}
 use Rattle.xn_kura.proofs.Marking.{distinct-push}
 use Rattle.xn_kura.proofs.Stages.{lead_all}

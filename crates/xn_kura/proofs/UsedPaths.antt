@@ -7,7 +7,8 @@ use Rattle.xn_model.specs.Evidence.{LeadAll, LeadsTo, all_inner, far_end, inner_
 use Rattle.xn_model.specs.Graph.{ends_at}
 use Rattle.xn_model.specs.Lists.{has, one_if}
 use Rattle.xn_model.specs.Map.{tail_of}
-use Rattle.xn_kura.proofs.Distinct.{distinct-apart, distinct-left, distinct-right, has-append, has-at, has-left, has-right}
+use Rattle.xn_model.proofs.Has.{has-append, has-at, has-left, has-right}
+use Rattle.xn_kura.proofs.Distinct.{distinct-apart, distinct-left, distinct-right}
 use Rattle.xn_kura.proofs.Path.{count_at, dart_on, darts}
 use Rattle.xn_kura.proofs.Tally.{count_if, count_if-append}
 use Rattle.xn_kura.specs.Flaws.{path_at}

@@ -11,10 +11,11 @@ use Rattle.xn_model.specs.Map.{reverse_of, tail_of}
 use Rattle.xn_model.specs.Permutation.{Permutes}
 use Rattle.xn_model.proofs.Darts.{reverse-even, reverse-odd}
 use Rattle.xn_ring.proofs.Orbits.{source_of}
+use Rattle.xn_model.proofs.Has.{has-at}
 use Rattle.xn_kura.proofs.Branches.{place_of}
 use Rattle.xn_kura.proofs.Choice.{IsPairOf, chosen_for, distinct_within, is_chosen}
 use Rattle.xn_kura.proofs.Degrees.{branch_degree, degree_in, inner_degree, other_degree}
-use Rattle.xn_kura.proofs.Distinct.{distinct-apart, distinct-left, has-at, positions_apart}
+use Rattle.xn_kura.proofs.Distinct.{distinct-apart, distinct-left, positions_apart}
 use Rattle.xn_kura.proofs.Pairs.{ArePairs}
 use Rattle.xn_kura.proofs.Path.{dart_cases, dart_on, last_of, last_tail, out, out_facts}
 use Rattle.xn_kura.proofs.Turned.{distinct-reverse, has-reverse, has-reversed, in_concat, inner-turned, length-lead, reverse-cons, subdivision_of_some, turned}

@@ -57,7 +57,8 @@ abbrev pub IsPathOrTurned : ℕ → List ℕ → ℕ → ℕ → List ℕ → �
 IsPathOrTurned u path v x turn y = ((x ≡ u) × (y ≡ v) × (turn ≡ path)) ⊎ ((x ≡ v) × (y ≡ u) × (turn ≡ reverse path))
 
 -- the chosen pairs of some of the branch nodes have some of the paths, in any order, each perhaps turned round
-pub record AreSomePaths (pairs : List (ℕ × ℕ)) (branch : List ℕ) (paths : List (List ℕ)) (chosen : List (ℕ × ℕ)) (nodes : List ℕ) (turns : List (List ℕ)) (from : ℕ → ℕ) : Type 0 where
+pub record AreSomePaths (pairs : List (ℕ × ℕ)) (branch : List ℕ) (paths : List (List ℕ))
+    (chosen : List (ℕ × ℕ)) (nodes : List ℕ) (turns : List (List ℕ)) (from : ℕ → ℕ) : Type 0 where
   pub as_many : length turns ≡ length chosen
   pub below : (q : ℕ) → q < length chosen → from q < length pairs
   pub apart : (q r : ℕ) → q < length chosen → r < length chosen → from q ≡ from r → q ≡ r

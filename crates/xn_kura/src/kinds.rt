@@ -1,5 +1,5 @@
 // The evidence that uses a whole web: proposed along the straight paths, then judged.
-ghost use Rattle.std.specs.Prelude.{◌≡◌, ◌^◌, ◌<◌, ◌≤◌, ◌*◌, ◌↔◌, IfOk, IsTrue, length, nat_eq};
+ghost use Rattle.std.specs.Prelude.{◌≡◌, ◌^◌, ◌<◌, ◌≤◌, ◌↔◌, IfOk, IsTrue, length, nat_eq};
 ghost use Rattle.std.specs.List.{IsDistinct, concat};
 ghost use Rattle.xn_kinds.specs.Row.{EvidenceHolds};
 ghost use Rattle.xn_kura.specs.Flaws.{HasAKind, PairsWithin};

@@ -1,7 +1,7 @@
 // Paths that go straight on through nodes with two darts.
 ghost use Rattle.std.specs.Prelude.{◌≡◌, ◌≢◌, ℕ, ◌*◌, ◌<◌, IfOk, length};
 ghost use Rattle.xn_model.specs.Map.{tail_of};
-ghost use Rattle.xn_kura.specs.Straight.{IsStraight, IsStraightBetween, IsStraightBy, IsTraceOf, dart_from, path_in, trace_in};
+ghost use Rattle.xn_kura.specs.Straight.{IsStraightBetween, IsStraightBy, IsTraceOf, path_in, trace_in};
 ghost use Rattle.xn_model.specs.Loose.{dart_count};
 
 use std::alloc::{AllocError, Global};

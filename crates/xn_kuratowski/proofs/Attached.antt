@@ -5,6 +5,7 @@ use Rattle.xn_model.specs.Evidence.{IsPathSystem, IsThreeThree, five_pairs, thre
 use Rattle.xn_model.specs.Graph.{EndsIn, Graph, ends_at}
 use Rattle.xn_genus.proofs.Kept.{EndsIn_at}
 use Rattle.xn_fewer.specs.Flat.{SameEnds}
+use Rattle.xn_kura.proofs.Pairs.{all_below, all_below_at}
 use Rattle.xn_kuratowski.specs.Minor.{IsMinor}
 use Rattle.xn_kuratowski.proofs.Choices.{AreDifferent, are_same, are_same-from, are_same-to, different_cons, find, find_is, same_sym, same_trans}
 use Rattle.xn_kuratowski.proofs.Legs.{ArePairs, IsStar, Paired, legs_subdivide}
@@ -47,16 +48,6 @@ each_pair-to : (t : ℕ × ℕ → Bool) (ps : List (ℕ × ℕ)) → each_pair 
 each_pair-to t [] h q q_in = absurd (omega (arith, q_in))
 each_pair-to t (p ∷ ps) h zero q_in = let two : (t p ≡ true) × (each_pair t ps ≡ true) = and_parts _ _ h in two.0
 each_pair-to t (p ∷ ps) h (suc q) q_in = let two : (t p ≡ true) × (each_pair t ps ≡ true) = and_parts _ _ h in each_pair-to t ps two.1 q (omega (arith, q_in))
-
-abbrev pub all_below : ℕ → (ℕ → Bool) → Bool
-all_below zero t = true
-all_below (suc n) t = t n && all_below n t
-
-pub all_below-to : (n : ℕ) (t : ℕ → Bool) → all_below n t ≡ true → (i : ℕ) → i < n → t i ≡ true
-all_below-to zero t h i i_in = absurd (omega (arith, i_in))
-all_below-to (suc n) t h i i_in =
-    let two : (t n ≡ true) × (all_below n t ≡ true) = and_parts _ _ h in
-    elim (cases_eq i n) [ inl last ↦ ap t last ∙ two.0 | inr earlier ↦ all_below-to n t two.1 i (omega (arith, i_in, earlier)) ]
 
 -- ---- three against three, and five
 
@@ -133,12 +124,12 @@ five_are_pairs = record {
 three_paired : (i s : ℕ) → i < 6 → s < 3 → Paired three_pairs i (three_other i s)
 three_paired i s i_in s_in =
     any_same-to (i, three_other i s) three_pairs
-    (all_below-to 3 (λ t. any_same (i, three_other i t) three_pairs) (all_below-to 6 (λ j. all_below 3 (λ t. any_same (j, three_other j t) three_pairs)) refl i i_in) s s_in)
+    (all_below_at 3 (λ t. any_same (i, three_other i t) three_pairs) (all_below_at 6 (λ j. all_below 3 (λ t. any_same (j, three_other j t) three_pairs)) refl i i_in) s s_in)
 
 pub five_paired : (i s : ℕ) → i < 5 → s < 4 → Paired five_pairs i (five_other i s)
 five_paired i s i_in s_in =
     any_same-to (i, five_other i s) five_pairs
-    (all_below-to 4 (λ t. any_same (i, five_other i t) five_pairs) (all_below-to 5 (λ j. all_below 4 (λ t. any_same (j, five_other j t) five_pairs)) refl i i_in) s s_in)
+    (all_below_at 4 (λ t. any_same (i, five_other i t) five_pairs) (all_below_at 5 (λ j. all_below 4 (λ t. any_same (j, five_other j t) five_pairs)) refl i i_in) s s_in)
 
 three_back : (i o : ℕ) → Paired three_pairs i o → three_other i (three_slot i o) ≡ o
 three_back i o p = elim (three_sides i o p) [

@@ -10,7 +10,8 @@ use Rattle.xn_kinds.specs.declared.rows.Evidence.{Evidence}
 use Rattle.xn_kinds.specs.declared.rows.Evidence.TheVariants.{Five, ThreeThree}
 use Rattle.xn_kura.specs.Kinds.{IsWhole}
 use Rattle.xn_kura.specs.Laws.{FiveExcludesFlat, ThreeThreeExcludesFlat}
-use Rattle.xn_fewer.proofs.Has.{has-left, has-right}
+use Rattle.xn_model.proofs.Has.{has-left, has-right}
+use Rattle.xn_kura.proofs.Turned.{length-lead}
 use Rattle.xn_kuratowski.specs.Core.{CoresAreFound, CoresAreSubdivisions, IsCore, left_without}
 use Rattle.xn_kuratowski.specs.Theorem.{HasEvidence}
 use Rattle.xn_kuratowski.proofs.Reduced.{at_left_high, at_left_low, length-left}
@@ -151,12 +152,6 @@ cores_are_subdivisions five three web core = elim (flat_or_evidence web core.end
 
 -- ---- as the search for the kind has it
 
-paths_of_pairs : (ends : List (ℕ × ℕ)) (branch : List ℕ) (pairs : List (ℕ × ℕ)) (paths : List (List ℕ)) → LeadAll ends branch pairs paths → length paths ≡ length pairs
-paths_of_pairs ends branch [] [] lead = refl
-paths_of_pairs ends branch [] (path ∷ paths) lead = absurd lead
-paths_of_pairs ends branch (p ∷ pairs) [] lead = absurd lead
-paths_of_pairs ends branch (p ∷ pairs) (path ∷ paths) lead = ap suc (paths_of_pairs ends branch pairs paths lead.1)
-
 -- for every core an evidence of one of the two kinds holds that uses each of its segments
 cores_are_whole : CoresAreSubdivisions → (web : Graph) → IsCore web → (evidence : Evidence) × IsWhole web evidence
 cores_are_whole subdivisions web core =
@@ -164,11 +159,11 @@ cores_are_whole subdivisions web core =
     elim found.2 [
       | inl five ↦ (
         Five found.0 found.1,
-        record { kind = (five.0, paths_of_pairs web.ends found.0 five_pairs found.1 five.1.lead); holds = five; all = found.3 },
+        record { kind = (five.0, length-lead web.ends found.0 five_pairs found.1 five.1.lead); holds = five; all = found.3 },
       )
       | inr three ↦ (
         ThreeThree found.0 found.1,
-        record { kind = (three.0, paths_of_pairs web.ends found.0 three_pairs found.1 three.1.lead); holds = three; all = found.3 },
+        record { kind = (three.0, length-lead web.ends found.0 three_pairs found.1 three.1.lead); holds = three; all = found.3 },
       )
     ]
 

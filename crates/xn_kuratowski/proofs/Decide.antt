@@ -5,7 +5,8 @@ use Rattle.xn_model.specs.Lists.{at}
 use Rattle.xn_model.specs.Map.{IsFlat, reverse_of, tail_of}
 use Rattle.xn_genus.proofs.Tests.{some_below, some_below-from, some_below-to}
 use Rattle.xn_kuratowski.specs.Minor.{HasMinor}
-use Rattle.xn_kuratowski.proofs.Apart.{arcs_come_apart, small_stars}
+use Rattle.xn_kuratowski.proofs.Apart.{arcs_come_apart}
+use Rattle.xn_kuratowski.proofs.SmallStars.{small_stars}
 use Rattle.xn_kuratowski.proofs.Arcs.{x_dart, x_head}
 use Rattle.xn_kuratowski.proofs.Gaps.{four_minor, gap_arcs, rim_l, shifted, shifted_base, shifted_start, x_index, x_spot, y_spot}
 use Rattle.xn_kuratowski.proofs.Rim.{ContractedWebsDecide, HasArcs, AreStars, IsRim, RimsDecide, is_second, web_of_stars, web_merged}

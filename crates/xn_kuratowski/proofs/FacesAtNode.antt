@@ -6,7 +6,7 @@ use Rattle.xn_model.specs.Lists.{has}
 use Rattle.xn_model.specs.Map.{MeetsEuler, IsFlat, IsMap, Joined, face_step, is_lone, reverse_of, tail_of}
 use Rattle.xn_model.specs.Permutation.{Permutes, Reaches, iterate}
 use Rattle.xn_model.proofs.Darts.{cases_dart, reverse-even, reverse-odd, reverse-reverse, reverse_below, tail-even, tail-odd}
-use Rattle.xn_ring.proofs.Orbits.{comes_back, iterate-add, iterate-step, iterate_apart, iterate_below}
+use Rattle.xn_ring.proofs.Orbits.{comes_back, iterate-add, iterate_apart, iterate_below}
 use Rattle.xn_genus.specs.Part.{IsPart, PassesOver}
 use Rattle.xn_genus.proofs.Compress.{tail_in}
 use Rattle.xn_genus.proofs.Counts.{Permutes-face}
@@ -14,6 +14,7 @@ use Rattle.xn_genus.proofs.Lone.{dart_if_not_lone}
 use Rattle.xn_genus.proofs.Part.{flat_of_part, map_of_part, passes_over}
 use Rattle.xn_fewer.proofs.Lists.{lone_ends}
 use Rattle.xn_fewer.proofs.Walks.{filter_to, joined_within}
+use Rattle.xn_model.proofs.Decide.{iterate-step}
 use Rattle.xn_kuratowski.specs.Reduction.{away, is_clear}
 use Rattle.xn_kuratowski.proofs.Aways.{clear_to, joined_away, out_three, three_out}
 use Rattle.xn_kuratowski.proofs.Rim.{AreStars, web_merged}

@@ -8,8 +8,9 @@ use Rattle.xn_model.specs.Map.{Joined}
 use Rattle.xn_model.proofs.ComponentWalks.{joined_sym, joined_trans}
 use Rattle.xn_genus.proofs.Tests.{some_below, some_below-from, some_below-to}
 use Rattle.xn_fewer.proofs.Walks.{filter_to, joined_same, joined_within}
+use Rattle.xn_kura.proofs.Pairs.{all_below, all_below_at}
 use Rattle.xn_kuratowski.specs.Minor.{Adjoin, IsMinor, inside, is_inside}
-use Rattle.xn_kuratowski.proofs.Attached.{all_below, all_below-to, any_same, any_same-to, five_are_pairs, gate, gate_is}
+use Rattle.xn_kuratowski.proofs.Attached.{any_same, any_same-to, five_are_pairs, gate, gate_is}
 use Rattle.xn_kuratowski.proofs.Legs.{Paired}
 use Rattle.xn_kuratowski.proofs.Minors.{is_within, joined_inside}
 use Rattle.xn_kuratowski.proofs.Rim.{Adjacent}
@@ -108,7 +109,7 @@ union_within ends class i lo hi lo' hi' f g is w h = elim (or_cases (on_stretch 
 -- each two classes of five are a pair
 pub any_paired : (i o : ℕ) → i < 5 → o < 5 → i ≢ o → Paired five_pairs i o
 any_paired i o i_in o_in other =
-    let h = all_below-to 5 (λ t. eqb i t || any_same (i, t) five_pairs) (all_below-to 5 (λ j. all_below 5 (λ t. eqb j t || any_same (j, t) five_pairs)) refl i i_in) o o_in in
+    let h = all_below_at 5 (λ t. eqb i t || any_same (i, t) five_pairs) (all_below_at 5 (λ j. all_below 5 (λ t. eqb j t || any_same (j, t) five_pairs)) refl i i_in) o o_in in
     elim (or_cases (eqb i o) (any_same (i, o) five_pairs) h) [
       | inl same ↦ absurd (other (eqb-true _ _ same))
       | inr found ↦ any_same-to (i, o) five_pairs found

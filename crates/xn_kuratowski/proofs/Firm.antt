@@ -6,11 +6,12 @@ use Rattle.xn_model.specs.Lists.{has, one_if}
 use Rattle.xn_model.specs.Map.{Joined}
 use Rattle.xn_model.specs.Permutation.{count_below}
 use Rattle.xn_model.proofs.ComponentWalks.{joined_sym, joined_trans}
-use Rattle.xn_ring.proofs.Counting.{count-parts, count-same, same_tests}
+use Rattle.xn_ring.proofs.Counting.{count-parts, count-same}
 use Rattle.xn_genus.proofs.Counts.{count_below-drop}
 use Rattle.xn_genus.proofs.Kept.{EndsIn_at}
 use Rattle.xn_genus.proofs.Tests.{some_below, some_below-from, some_below-to}
 use Rattle.xn_fewer.proofs.Walks.{filter_to, joined_closed, joined_ends, joined_within, walk_leaves}
+use Rattle.xn_model.proofs.Tests.{same_tests}
 use Rattle.xn_kuratowski.specs.Reduction.{away, is_clear}
 use Rattle.xn_kuratowski.proofs.Aways.{EndsIn-away, avoided_alone, cases_joined, clear_to, joined_away, out_three, out_two, three_out, two_out, with_from, with_node, with_not, with_to}
 use Rattle.xn_kuratowski.proofs.Separation.{IsFirm, NoTwoSeparate, SomeSegmentIsFirm, are_apart, falls_apart, some_two, stays_whole}

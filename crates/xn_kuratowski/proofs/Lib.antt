@@ -16,11 +16,13 @@ mod Gaps
 mod Legs
 mod MinorSteps
 mod Minors
+mod Passing
 mod Reduced
 mod Rim
 mod RimMinors
 mod Round
 mod Separation
+mod SmallStars
 mod Smallest
 mod Splits
 mod Stars

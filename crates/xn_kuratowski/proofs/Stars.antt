@@ -4,9 +4,8 @@ use Rattle.std.proofs.lemmas.Bool.{cases_lt}
 use Rattle.xn_model.specs.Graph.{EndsIn, HasNoLoop, ends_at}
 use Rattle.xn_model.specs.Lists.{at}
 use Rattle.xn_model.specs.Map.{is_lone, tail_of}
-use Rattle.xn_model.proofs.Darts.{cases_dart, tail-even, tail-odd}
+use Rattle.xn_model.proofs.Darts.{EndsIn-both, cases_dart, tail-even, tail-odd}
 use Rattle.xn_genus.proofs.Nodes.{lone_from}
-use Rattle.xn_surgery.proofs.OverlayComponents.{EndsIn-both}
 use Rattle.xn_fewer.specs.Flat.{both, called, merged}
 use Rattle.xn_fewer.proofs.Lists.{at_back, at_front, both-append, called-at, called-other, lone_ends, merged-lone}
 use Rattle.xn_kuratowski.proofs.Rim.{AreStars, star, web_of_stars, web_merged}

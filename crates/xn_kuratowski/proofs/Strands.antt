@@ -7,7 +7,7 @@ use Rattle.xn_model.specs.Evidence.{IsPathSystem, LeadAll, LeadsTo, all_inner, f
 use Rattle.xn_model.specs.Graph.{Graph, ends_at, touches}
 use Rattle.xn_model.specs.Lists.{has}
 use Rattle.xn_fewer.specs.Flat.{SameEnds}
-use Rattle.xn_fewer.proofs.Has.{has-append}
+use Rattle.xn_model.proofs.Has.{has-append}
 use Rattle.xn_kuratowski.proofs.Choices.{same_sym, same_trans}
 
 -- the list of f 0, f 1, up to n

@@ -4,7 +4,7 @@ use Rattle.std.proofs.lemmas.Bool.{cases_Bool, cases_eq, cases_lt, cond-true, co
 use Rattle.xn_model.specs.Graph.{EndsIn, ends_at}
 use Rattle.xn_model.specs.Map.{MeetsEuler, IsMap, face_step, is_lone, reverse_of, tail_of}
 use Rattle.xn_model.specs.Permutation.{IsSplice, Reaches}
-use Rattle.xn_model.proofs.Darts.{cases_dart, reverse-even, reverse-odd, tail-even, tail-odd, tail-push_even, tail-push_odd}
+use Rattle.xn_model.proofs.Darts.{EndsIn-both, cases_dart, reverse-even, reverse-odd, tail-even, tail-odd, tail-push_even, tail-push_odd}
 use Rattle.xn_ring.specs.Parts.{IsBeside}
 use Rattle.xn_ring.proofs.Orbits.{source_of}
 use Rattle.xn_genus.proofs.Compress.{EndsIn_from, tail_in}
@@ -14,7 +14,7 @@ use Rattle.xn_genus.proofs.Nodes.{lone_from}
 use Rattle.xn_surgery.specs.Corners.{after}
 use Rattle.xn_surgery.specs.Overlay.{IsOverlay}
 use Rattle.xn_surgery.proofs.Overlay.{overlay_flat, overlay_map}
-use Rattle.xn_surgery.proofs.OverlayComponents.{EndsIn-both, tail-left, tail-right}
+use Rattle.xn_surgery.proofs.OverlayComponents.{tail-left, tail-right}
 use Rattle.xn_fewer.specs.Flat.{HasFlat, both, called, merged}
 use Rattle.xn_fewer.proofs.Flats.{Permutes-exchanged, fewer_flat, inserted_flat, more_flat, named_flat, picked_flat}
 use Rattle.xn_fewer.proofs.Lists.{at_back, at_both, at_front, at_last, both-append, both-none, both-same, called-at, called-other, cases_exchanged, exchanged, length-both, lone_ends, map-map, merged-lone, tail_both}

@@ -1,4 +1,4 @@
--- A segment is divided: the faces keep their names.
+-- Where a segment is divided the faces keep their names.
 use Rattle.std.proofs.Common.{◌≡◌, ◌≢◌, ℕ, zero, suc, ◌+◌, ◌*◌, ◌<◌, ◌⊎◌, inl, inr, Bool, cond, eqb, List, length, refl, sym, ◌∙◌, ap, subst, arith}
 use Rattle.std.proofs.lemmas.Bool.{cases_eq, cond-true, cond-false, eq-eqb, ne_eqb}
 use Rattle.xn_model.specs.Graph.{ends_at}
@@ -10,14 +10,9 @@ use Rattle.xn_ring.proofs.Orbits.{iterate_below, reaches_trans}
 use Rattle.xn_genus.proofs.Counts.{Permutes-face}
 use Rattle.xn_surgery.proofs.Subdivide.{components_more, faces_more, map_more}
 use Rattle.xn_loose.specs.Routes.{AreFaceNames}
-use Rattle.xn_track.proofs.Relink.{ends_by, ends_by-length, ends_by-tail}
-
--- the ends of a listed segment, from the tails of its darts
-pair_eta : (p : ℕ × ℕ) (u v : ℕ) → p.0 ≡ u → p.1 ≡ v → p ≡ (u, v)
-pair_eta p u v one two = ap (λ x. (x, p.1)) one ∙ ap (λ y. (u, y)) two
 
 module _ (nodes : ℕ) (ends : List (ℕ × ℕ)) (next name : ℕ → ℕ) (whole : ℕ → Bool) (map : IsMap nodes ends next) (flat : MeetsEuler nodes ends next)
-    (faces : AreFaceNames ends next name whole) (s : ℕ) (s_in : s < length ends) where
+    (faces : AreFaceNames ends next name whole) (s : ℕ) (s_in : s < length ends) (more : List (ℕ × ℕ)) (after : ℕ → ℕ) (divides : IsSubdivision nodes ends next s more after) where
   abbrev last : ℕ
   last = length ends
 
@@ -37,88 +32,54 @@ module _ (nodes : ℕ) (ends : List (ℕ × ℕ)) (next name : ℕ → ℕ) (who
   now_cases x = elim (cases_eq x (2 * s + 1)) [ inl e ↦ inl (e, now_here x e) | inr e ↦ inr (e, now_there x e) ]
 
   -- the tails
-  abbrev t : ℕ → ℕ
-  t x = cond (eqb x (2 * s + 1)) nodes (cond (eqb x (2 * last)) nodes (cond (eqb x (2 * last + 1)) (tail_of ends (2 * s + 1)) (tail_of ends x)))
-
-  abbrev pub more : List (ℕ × ℕ)
-  more = ends_by t (suc (length ends))
-
   pub size : length more ≡ suc last
-  size = ends_by-length t (suc last)
-
-  tail_is : (x : ℕ) → x < 2 * suc last → tail_of more x ≡ t x
-  tail_is x x_in = ends_by-tail t (suc last) x x_in
+  size = divides.longer
 
   pub tail_mid : tail_of more (2 * s + 1) ≡ nodes
-  tail_mid = tail_is (2 * s + 1) (omega (arith, s_in)) ∙ cond-true _ _ _ (eq-eqb (2 * s + 1) (2 * s + 1) refl)
+  tail_mid = tail-odd more s ∙ ap (λ p. p.1) divides.first_part
 
   pub tail_last : tail_of more (2 * last) ≡ nodes
-  tail_last = tail_is (2 * last) (omega arith) ∙ cond-false _ _ _ (ne_eqb (2 * last) (2 * s + 1) (λ e. omega (arith, e))) ∙ cond-true _ _ _ (eq-eqb (2 * last) (2 * last) refl)
-
-  tail_end : tail_of more (2 * last + 1) ≡ tail_of ends (2 * s + 1)
-  tail_end = tail_is (2 * last + 1) (omega arith) ∙ cond-false _ _ _ (ne_eqb (2 * last + 1) (2 * s + 1) (λ e. omega (arith, e, s_in)))
-      ∙ cond-false _ _ _ (ne_eqb (2 * last + 1) (2 * last) (λ e. omega (arith, e))) ∙ cond-true _ _ _ (eq-eqb (2 * last + 1) (2 * last + 1) refl)
+  tail_last = tail-even more last ∙ ap (λ p. p.0) divides.last_part
 
   tail_old : (x : ℕ) → x < n → x ≢ 2 * s + 1 → tail_of more x ≡ tail_of ends x
-  tail_old x x_in other = tail_is x (omega (arith, x_in)) ∙ cond-false _ _ _ (ne_eqb x (2 * s + 1) other)
-      ∙ cond-false _ _ _ (ne_eqb x (2 * last) (λ e. omega (arith, e, x_in))) ∙ cond-false _ _ _ (ne_eqb x (2 * last + 1) (λ e. omega (arith, e, x_in)))
+  tail_old x x_in other =
+      let c = cases_dart x in
+      let k_in : c.0 < length ends = omega (arith, x_in, c.1) in
+      elim c.1 [
+        | inl even ↦
+            let first : (ends_at more c.0).0 ≡ (ends_at ends c.0).0 = elim (cases_eq c.0 s) [
+              | inl same ↦ ap (λ k. (ends_at more k).0) same ∙ ap (λ p. p.0) divides.first_part ∙ ap (λ k. (ends_at ends k).0) (sym same)
+              | inr far ↦ ap (λ p. p.0) (divides.ends_kept c.0 k_in far)
+            ] in
+            ap (tail_of more) even ∙ tail-even more c.0 ∙ first ∙ sym (tail-even ends c.0) ∙ ap (tail_of ends) (sym even)
+        | inr odd ↦
+            let far : c.0 ≢ s = λ same. other (omega (arith, odd, same)) in
+            ap (tail_of more) odd ∙ tail-odd more c.0 ∙ ap (λ p. p.1) (divides.ends_kept c.0 k_in far) ∙ sym (tail-odd ends c.0) ∙ ap (tail_of ends) (sym odd)
+      ]
 
   pub tails : (x : ℕ) → x < n → tail_of more (now x) ≡ tail_of ends x
   tails x x_in = elim (now_cases x) [
-    | inl here ↦ ap (tail_of more) here.1 ∙ tail_end ∙ ap (tail_of ends) (sym here.0)
+    | inl here ↦ ap (tail_of more) here.1 ∙ tail-odd more last ∙ ap (λ p. p.1) divides.last_part ∙ sym (tail-odd ends s) ∙ ap (tail_of ends) (sym here.0)
     | inr there ↦ ap (tail_of more) there.1 ∙ tail_old x x_in there.0
   ]
 
   -- the turns
-  abbrev before : ℕ → ℕ
-  before x = cond (eqb x (2 * last + 1)) (2 * s + 1) x
-
-  abbrev pub after : ℕ → ℕ
-  after x = cond (eqb x (2 * s + 1)) (2 * last) (cond (eqb x (2 * last)) (2 * s + 1) (now (next (before x))))
-
   pub after_mid : after (2 * s + 1) ≡ 2 * last
-  after_mid = cond-true _ _ _ (eq-eqb (2 * s + 1) (2 * s + 1) refl)
+  after_mid = divides.turns_new
 
   pub after_last : after (2 * last) ≡ 2 * s + 1
-  after_last = cond-false _ _ _ (ne_eqb (2 * last) (2 * s + 1) (λ e. omega (arith, e))) ∙ cond-true _ _ _ (eq-eqb (2 * last) (2 * last) refl)
+  after_last = divides.turns_back
 
   pub after_now : (x : ℕ) → x < n → after (now x) ≡ now (next x)
-  after_now x x_in = elim (now_cases x) [
-    | inl here ↦
-        ap after here.1 ∙ cond-false _ _ _ (ne_eqb (2 * last + 1) (2 * s + 1) (λ e. omega (arith, e, s_in)))
-        ∙ cond-false _ _ _ (ne_eqb (2 * last + 1) (2 * last) (λ e. omega (arith, e)))
-        ∙ ap (λ k. now (next k)) (cond-true _ _ _ (eq-eqb (2 * last + 1) (2 * last + 1) refl) ∙ sym here.0)
-    | inr there ↦
-        ap after there.1 ∙ cond-false _ _ _ (ne_eqb x (2 * s + 1) there.0) ∙ cond-false _ _ _ (ne_eqb x (2 * last) (λ e. omega (arith, e, x_in)))
-        ∙ ap (λ k. now (next k)) (cond-false _ _ _ (ne_eqb x (2 * last + 1) (λ e. omega (arith, e, x_in))))
-  ]
-
-  is_subdivision : IsSubdivision nodes ends next s more after
-  is_subdivision = record {
-    is_there = s_in;
-    longer = size;
-    ends_kept = λ i i_in other. pair_same (ends_at more i) (ends_at ends i)
-        (sym (tail-even more i) ∙ tail_old (2 * i) (omega (arith, i_in)) (λ e. omega (arith, e)) ∙ tail-even ends i)
-        (sym (tail-odd more i) ∙ tail_old (2 * i + 1) (omega (arith, i_in)) (λ e. other (omega (arith, e))) ∙ tail-odd ends i);
-    first_part = pair_eta (ends_at more s) (ends_at ends s).0 nodes
-        (sym (tail-even more s) ∙ tail_old (2 * s) (omega (arith, s_in)) (λ e. omega (arith, e)) ∙ tail-even ends s) (sym (tail-odd more s) ∙ tail_mid);
-    last_part = pair_eta (ends_at more last) nodes (ends_at ends s).1
-        (sym (tail-even more last) ∙ tail_last) (sym (tail-odd more last) ∙ tail_end ∙ tail-odd ends s);
-    turns = after_now;
-    turns_new = after_mid;
-    turns_back = after_last;
-  }
-    where
-      pair_same : (p q : ℕ × ℕ) → p.0 ≡ q.0 → p.1 ≡ q.1 → p ≡ q
-      pair_same p q one two = pair_eta p q.0 q.1 one two
+  after_now = divides.turns
 
   pub divided_map : IsMap (suc nodes) more after
-  divided_map = map_more nodes s ends more next after map is_subdivision
+  divided_map = map_more nodes s ends more next after map divides
 
   pub divided_flat : MeetsEuler (suc nodes) more after
   divided_flat =
-      let f = faces_more nodes s ends more next after map is_subdivision in
-      let c = components_more nodes s ends more next after map is_subdivision in
+      let f = faces_more nodes s ends more next after map divides in
+      let c = components_more nodes s ends more next after map divides in
       omega (arith, flat, f, c, size)
 
   -- ---- the names of the faces

@@ -73,7 +73,7 @@ module _ (g : Graph) (edges all : List ℕ) (e : ℕ) (is_graph : IsGraph g) (li
     abbrev last : ℕ
     last = length web.ends
 
-    abbrev web' : Graph
+    abbrev pub web' : Graph
     web' = record { nodes = web.nodes; ends = ends' }
 
     abbrev now : ℕ → ℕ
@@ -82,7 +82,7 @@ module _ (g : Graph) (edges all : List ℕ) (e : ℕ) (is_graph : IsGraph g) (li
     abbrev a : ℕ
     a = 2 * length web.ends
 
-    abbrev four' : ℕ → Bool
+    abbrev pub four' : ℕ → Bool
     four' = also four g.nodes (tail_of web.ends y)
 
     size' : length ends' ≡ suc last
@@ -149,8 +149,8 @@ module _ (g : Graph) (edges all : List ℕ) (e : ℕ) (is_graph : IsGraph g) (li
     longer : List ℕ → List ℕ
     longer ds = ds
 
-    abbrev own'' : List ℕ
-    own'' = own ++ a ∷ []
+    abbrev pub own'' : List ℕ
+    own'' = own ++ (2 * length web.ends) ∷ []
 
     -- an old walk stays, and is longer by no segment
     old_path : (f t : ℕ) (ds : List ℕ) → Path last (Seam n web next four y q) f ds t → Path (length ends') L f ds t
@@ -184,7 +184,7 @@ module _ (g : Graph) (edges all : List ℕ) (e : ℕ) (is_graph : IsGraph g) (li
           }
     ]
 
-    abbrev walks'' : ℕ → List ℕ
+    abbrev pub walks'' : ℕ → List ℕ
     walks'' = with_walk walks e own''
 
     own_none : last ≤ last → times_walked last own ≡ 0
@@ -226,7 +226,7 @@ module _ (g : Graph) (edges all : List ℕ) (e : ℕ) (is_graph : IsGraph g) (li
               omega (arith, sum, old_sum, here, own_sum, less, some, x, w)
         ]
 
-    fullness : Exact g.nodes edges web four y walks own → Full web' four' walks''
+    pub fullness : Exact g.nodes edges web four y walks own → Full web' four' walks''
     fullness x = record {
       all_four = λ w high w_in. elim (cases_eq w (tail_of web.ends y)) [
         | inl same ↦ let y_high : n ≤ tail_of web.ends y = omega (arith, high, same) in ap four' same ∙ also_here four n (tail_of web.ends y) y_high
@@ -258,7 +258,7 @@ module _ (g : Graph) (edges all : List ℕ) (e : ℕ) (is_graph : IsGraph g) (li
       | inr old ↦ met_same web.ends ends' (Seam n web next four y q) last W.tails old.from b own old.path k
     ]
 
-    single'' : Single edges web name whole y walks own → (x k : ℕ) → has all x ≡ true → times_met ends' k (walks'' x) ≤ 1
+    pub single'' : Single edges web name whole y walks own → (x k : ℕ) → has all x ≡ true → times_met ends' k (walks'' x) ≤ 1
     single'' once x k x_in = elim (cases_eq x e) [
       | inl is ↦
           let here : times_met ends' k (walks'' x) ≡ times_met ends' k own'' = ap (times_met ends' k) (cond-true _ _ _ (eq-eqb x e is)) in
@@ -276,8 +276,8 @@ module _ (g : Graph) (edges all : List ℕ) (e : ℕ) (is_graph : IsGraph g) (li
           omega (arith, here, same, was)
     ]
 
-    pub ended : Done (count_below web.nodes four + one_if (leb g.nodes (tail_of web.ends y))) web.nodes (Exact g.nodes edges web four y walks own) (Single edges web name whole y walks own)
-    ended =
+    pub ended_track : IsTrack g all web' after four' walks''
+    ended_track =
         let P : ℕ → List ℕ → Type 0 = λ x ds. WalksTo ends' (ends_at g.ends x).0 ds (ends_at g.ends x).1 × GoesOn g.nodes ends' (straight_on ends' four' after) ds in
         let walk : (x : ℕ) → has all x ≡ true → P x (walks'' x) = λ x x_in. elim (cases_eq x e) [
           | inl is ↦ subst (λ ds. P x ds) (sym (cond-true _ _ _ (eq-eqb x e is))) (subst (λ k. P k own'') (sym is) (as_walk g web' after four' ground' e false own'' own_path))
@@ -295,34 +295,37 @@ module _ (g : Graph) (edges all : List ℕ) (e : ℕ) (is_graph : IsGraph g) (li
               subst (λ ds. P x ds) (sym (cond-false _ _ _ (ne_eqb x e other))) (as_walk g web' after four' ground' x false (walks x) path)
         ] in
         record {
-          web = web';
-          next = after;
-          four = four';
-          walks = walks'';
-          few = also_count four n (tail_of web.ends y) web.nodes;
-          nodes_are = refl;
-          full = fullness;
-          single = single'';
-          track = record {
-            edge_list = more_edges.edge_list;
-            ground = ground';
-            lead = λ x x_in. (walk x x_in).0;
-            straight = λ x x_in. (walk x x_in).1;
-            once = once'';
-          };
+          edge_list = more_edges.edge_list;
+          ground = ground';
+          lead = λ x x_in. (walk x x_in).0;
+          straight = λ x x_in. (walk x x_in).1;
+          once = once'';
         }
+
+    pub ended : Done (count_below web.nodes four + one_if (leb g.nodes (tail_of web.ends y))) web.nodes (Exact g.nodes edges web four y walks own) (Single edges web name whole y walks own)
+    ended = record {
+      web = web';
+      next = after;
+      four = four';
+      walks = walks'';
+      few = also_count four n (tail_of web.ends y) web.nodes;
+      nodes_are = refl;
+      full = fullness;
+      single = single'';
+      track = ended_track;
+    }
 
   -- ---- along the route
 
-  abbrev Low : ℕ → List ℕ → Type 0
+  abbrev pub Low : ℕ → List ℕ → Type 0
   Low m [] = Unit {0}
   Low m (d ∷ ds) = (d < m) × Low m ds
 
-  low_more : (m k : ℕ) (ds : List ℕ) → m ≤ k → Low m ds → Low k ds
+  pub low_more : (m k : ℕ) (ds : List ℕ) → m ≤ k → Low m ds → Low k ds
   low_more m k [] up low = tt
   low_more m k (d ∷ ds) up low = (let here = low.0 in omega (arith, here, up), low_more m k ds up low.1)
 
-  route_kept : (m : ℕ) (name names : ℕ → ℕ) (whole : ℕ → Bool) (c : ℕ) (ds : List ℕ) (z z' : ℕ) → Low (2 * m) ds → ((x : ℕ) → x < 2 * m → names x ≡ name x) → names z' ≡ name z →
+  pub route_kept : (m : ℕ) (name names : ℕ → ℕ) (whole : ℕ → Bool) (c : ℕ) (ds : List ℕ) (z z' : ℕ) → Low (2 * m) ds → ((x : ℕ) → x < 2 * m → names x ≡ name x) → names z' ≡ name z →
       RouteOf name whole c ds z → RouteOf names whole c ds z'
   route_kept m name names whole c [] z z' low same at_z route = (route.0, at_z ∙ route.1)
   route_kept m name names whole c (d ∷ ds) z z' low same at_z route =
@@ -371,18 +374,15 @@ module _ (g : Graph) (edges all : List ℕ) (e : ℕ) (is_graph : IsGraph g) (li
       at_most true = omega arith
       at_most false = omega arith
 
-pub come_in : (g : Graph) (edges all : List ℕ) (e : ℕ) (web : Graph) (next : ℕ → ℕ) (four : ℕ → Bool) (walks : ℕ → List ℕ) (is_graph : IsGraph g) (track : IsTrack g edges web next four walks)
-    (more_edges : IsOneMore (length g.ends) edges e all) (e_low : e < length g.ends) → (name : ℕ → ℕ) → AreFaceNames web.ends next name (λ c. true) →
-    (y z : ℕ) (ds : List ℕ) → y < 2 * length web.ends → z < 2 * length web.ends → All (λ d. d < 2 * length web.ends) ds →
-    tail_of web.ends y ≡ (ends_at g.ends e).0 → tail_of web.ends z ≡ (ends_at g.ends e).1 → RouteOf name (λ c. true) (name y) ds z →
-    Done g edges all e is_graph track.edge_list more_edges e_low (count_below web.nodes four + length ds) (web.nodes + length ds) (Exact g.nodes edges web four y walks []) (EachMeetsOnce edges web.ends walks)
-come_in g edges all e web next four walks is_graph track more_edges e_low name faces y z ds y_in z_in ds_in at_y at_z route =
+-- before the first step the walk that comes in stands at its first end
+pub begun : (g : Graph) (edges : List ℕ) (e : ℕ) (web : Graph) (next : ℕ → ℕ) (four : ℕ → Bool) (walks : ℕ → List ℕ) (is_graph : IsGraph g) (track : IsTrack g edges web next four walks)
+    (e_low : e < length g.ends) → (name : ℕ → ℕ) → AreFaceNames web.ends next name (λ c. true) → (y : ℕ) → y < 2 * length web.ends → tail_of web.ends y ≡ (ends_at g.ends e).0 →
+    State g edges (ends_at g.ends e).0 web next four name (λ c. true) y y y walks []
+begun g edges e web next four walks is_graph track e_low name faces y y_in at_y =
     let ends_e = EndsIn_at g.nodes g.ends is_graph.ends_in e e_low in
     let u_low : tail_of web.ends y < g.nodes = omega (arith, at_y, ends_e) in
     let not_four : four (tail_of web.ends y) ≡ false = elim (cases_Bool (four (tail_of web.ends y))) [ inr fails ↦ fails | inl h ↦ let f = track.ground.further (tail_of web.ends y) h in absurd (omega (arith, f.0, u_low)) ] in
-    let not_high : leb g.nodes (tail_of web.ends y) ≡ false = elim (cases_Bool (leb g.nodes (tail_of web.ends y))) [ inr fails ↦ fails | inl h ↦ let high = leb-true _ _ h in absurd (omega (arith, high, u_low)) ] in
-    let none : one_if (leb g.nodes (tail_of web.ends y)) ≡ 0 = ap one_if not_high in
-    let st : State g edges (ends_at g.ends e).0 web next four name (λ c. true) y y y walks [] = record {
+    record {
       is_flat_map = track.ground.is_flat_map;
       nodes_in = track.ground.nodes_in;
       further = track.ground.further;
@@ -407,14 +407,30 @@ come_in g edges all e web next four walks is_graph track more_edges e_low name f
             at_to = r.at_to;
           };
       once = λ t. let once = track.once t in omega (arith, once);
-    } in
+    }
+
+-- where no walk meets a node twice, none does with the one that stands there
+pub single_begun : (edges : List ℕ) (web : Graph) (name : ℕ → ℕ) (y : ℕ) (walks : ℕ → List ℕ) → EachMeetsOnce edges web.ends walks → Single edges web name (λ c. true) y walks []
+single_begun edges web name y walks once = record {
+  each = λ x k x_in. once_if_distinct web.ends (walks x) (once x x_in) k;
+  own_once = λ k. let most = one_if-most (eqb (tail_of web.ends y) k) in omega (arith, most);
+  closed = λ x x_in some. absurd (omega (arith, some));
+}
+
+pub come_in : (g : Graph) (edges all : List ℕ) (e : ℕ) (web : Graph) (next : ℕ → ℕ) (four : ℕ → Bool) (walks : ℕ → List ℕ) (is_graph : IsGraph g) (track : IsTrack g edges web next four walks)
+    (more_edges : IsOneMore (length g.ends) edges e all) (e_low : e < length g.ends) → (name : ℕ → ℕ) → AreFaceNames web.ends next name (λ c. true) →
+    (y z : ℕ) (ds : List ℕ) → y < 2 * length web.ends → z < 2 * length web.ends → All (λ d. d < 2 * length web.ends) ds →
+    tail_of web.ends y ≡ (ends_at g.ends e).0 → tail_of web.ends z ≡ (ends_at g.ends e).1 → RouteOf name (λ c. true) (name y) ds z →
+    Done g edges all e is_graph track.edge_list more_edges e_low (count_below web.nodes four + length ds) (web.nodes + length ds) (Exact g.nodes edges web four y walks []) (EachMeetsOnce edges web.ends walks)
+come_in g edges all e web next four walks is_graph track more_edges e_low name faces y z ds y_in z_in ds_in at_y at_z route =
+    let ends_e = EndsIn_at g.nodes g.ends is_graph.ends_in e e_low in
+    let u_low : tail_of web.ends y < g.nodes = omega (arith, at_y, ends_e) in
+    let not_high : leb g.nodes (tail_of web.ends y) ≡ false = elim (cases_Bool (leb g.nodes (tail_of web.ends y))) [ inr fails ↦ fails | inl h ↦ let high = leb-true _ _ h in absurd (omega (arith, high, u_low)) ] in
+    let none : one_if (leb g.nodes (tail_of web.ends y)) ≡ 0 = ap one_if not_high in
+    let st = begun g edges e web next four walks is_graph track e_low name faces y y_in at_y in
     let done = along g edges all e is_graph track.edge_list more_edges e_low ds web next four name (λ c. true) y y y walks [] st z z_in at_z (all_low (2 * length web.ends) ds ds_in) route
     (count_below web.nodes four + length ds) (web.nodes + length ds) (omega (arith, none)) refl (Exact g.nodes edges web four y walks []) (EachMeetsOnce edges web.ends walks) (λ x. x)
-    (λ once. record {
-      each = λ x k x_in. once_if_distinct web.ends (walks x) (once x x_in) k;
-      own_once = λ k. let most = one_if-most (eqb (tail_of web.ends y) k) in omega (arith, most);
-      closed = λ x x_in some. absurd (omega (arith, some));
-    }) in
+    (single_begun edges web name y walks) in
     done
   where
     all_low : (m : ℕ) (ds : List ℕ) → All (λ d. d < m) ds → Low g edges all e is_graph track.edge_list more_edges e_low m ds

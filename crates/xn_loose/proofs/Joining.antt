@@ -63,7 +63,9 @@ tails_push ends p u v [] walk = refl
 tails_push ends p u v (d ∷ ds) walk = ap₂ ◌∷◌ (tail-push ends p d walk.0) (tails_push ends p (tail_of ends (reverse_of d)) v ds walk.2)
 
 module _ (g : Graph) (edges all : List ℕ) (e further : ℕ) (web : Graph) (next : ℕ → ℕ) (walks : ℕ → List ℕ) (loose : IsLoose g edges further web next walks)
-    (more_edges : IsOneMore (length g.ends) edges e all) (e_low : e < length g.ends) (apart : Joined web.ends (ends_at g.ends e).0 (ends_at g.ends e).1 → ⊥) where
+    (more_edges : IsOneMore (length g.ends) edges e all) (e_low : e < length g.ends) (apart : Joined web.ends (ends_at g.ends e).0 (ends_at g.ends e).1 → ⊥)
+    (from : (k : Corner) × IsCornerOf web.nodes web.ends k × (node_of web.ends k ≡ (ends_at g.ends e).0))
+    (to : (k : Corner) × IsCornerOf web.nodes web.ends k × (node_of web.ends k ≡ (ends_at g.ends e).1)) where
   abbrev n : ℕ
   n = g.nodes
 
@@ -75,12 +77,6 @@ module _ (g : Graph) (edges all : List ℕ) (e further : ℕ) (web : Graph) (nex
 
   e_ends : ((ends_at g.ends e).0 < n) × ((ends_at g.ends e).1 < n)
   e_ends = EndsIn_at n g.ends loose.is_graph.ends_in e e_low
-
-  pub from : (k : Corner) × IsCornerOf web.nodes web.ends k × (node_of web.ends k ≡ (ends_at g.ends e).0)
-  from = corner_at web.nodes web.ends (ends_at g.ends e).0 (let low = e_ends.0 in let all_nodes = loose.nodes in omega (arith, low, all_nodes))
-
-  pub to : (k : Corner) × IsCornerOf web.nodes web.ends k × (node_of web.ends k ≡ (ends_at g.ends e).1)
-  to = corner_at web.nodes web.ends (ends_at g.ends e).1 (let low = e_ends.1 in let all_nodes = loose.nodes in omega (arith, low, all_nodes))
 
   abbrev pair : ℕ × ℕ
   pair = (node_of web.ends from.0, node_of web.ends to.0)
@@ -222,10 +218,14 @@ module _ (g : Graph) (edges all : List ℕ) (e further : ℕ) (web : Graph) (nex
 
 pub edges_join_components : EdgesJoinComponents
 edges_join_components g edges all e further web next walks loose more_edges apart =
-    let e_low = one_more_low (length g.ends) edges all e more_edges in (
-      web' g edges all e further web next walks loose more_edges e_low apart,
-      turn g edges all e further web next walks loose more_edges e_low apart,
-      walks' g edges all e further web next walks loose more_edges e_low apart,
-      joined_loose g edges all e further web next walks loose more_edges e_low apart,
-      joined_once g edges all e further web next walks loose more_edges e_low apart,
+    let e_low = one_more_low (length g.ends) edges all e more_edges in
+    let ends_e = EndsIn_at g.nodes g.ends loose.is_graph.ends_in e e_low in
+    let all_nodes = loose.nodes in
+    let from = corner_at web.nodes web.ends (ends_at g.ends e).0 (let low = ends_e.0 in omega (arith, low, all_nodes)) in
+    let to = corner_at web.nodes web.ends (ends_at g.ends e).1 (let low = ends_e.1 in omega (arith, low, all_nodes)) in (
+      web' g edges all e further web next walks loose more_edges e_low apart from to,
+      turn g edges all e further web next walks loose more_edges e_low apart from to,
+      walks' g edges all e further web next walks loose more_edges e_low apart from to,
+      joined_loose g edges all e further web next walks loose more_edges e_low apart from to,
+      joined_once g edges all e further web next walks loose more_edges e_low apart from to,
     )

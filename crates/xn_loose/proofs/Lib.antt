@@ -14,6 +14,7 @@ pub mod PartSums
 pub mod Renamed
 pub mod RoutesThere
 pub mod Shortest
+pub mod SomeDivision
 pub mod Touch
 pub mod Webs
 pub mod Within

@@ -23,14 +23,14 @@ module _ (nodes : ℕ) (ends : List (ℕ × ℕ)) (next name : ℕ → ℕ) (map
 
   -- ---- routes by faces and by their names
 
-  name_along : (k a : ℕ) → a < m → (iterate (face_step next) k a < m) × (name (iterate (face_step next) k a) ≡ name a)
+  pub name_along : (k a : ℕ) → a < m → (iterate (face_step next) k a < m) × (name (iterate (face_step next) k a) ≡ name a)
   name_along zero a a_in = (a_in, refl)
   name_along (suc k) a a_in =
       let rest = name_along k a a_in in
       let b = iterate (face_step next) k a in
       (map.permutes.below (reverse_of b) (reverse_below (length ends) b rest.0), faces.keeps b rest.0 ∙ rest.1)
 
-  same_name : (a d : ℕ) → a < m → Reaches (face_step next) a d → name d ≡ name a
+  pub same_name : (a d : ℕ) → a < m → Reaches (face_step next) a d → name d ≡ name a
   same_name a d a_in there = ap name (sym there.1) ∙ (name_along there.0 a a_in).1
 
   pub crosses_by_names : (ds : List ℕ) (a v : ℕ) → a < m → CrossesTo ends next a ds v → (z : ℕ) × (z < m) × (tail_of ends z ≡ v) × R (λ c. true) (name a) ds z
@@ -72,7 +72,7 @@ module _ (nodes : ℕ) (ends : List (ℕ × ℕ)) (next name : ℕ → ℕ) (map
     avoids whole k z ds (name (reverse_of d)) r.3 (λ es low route. none es (omega (arith, low)) route),
   )
 
-  least_once : (whole : ℕ → Bool) (c z : ℕ) (ds : List ℕ) → R whole c ds z → ((es : List ℕ) → R (λ w. true) c es z → length ds ≤ length es) → RouteOf name whole c ds z
+  pub least_once : (whole : ℕ → Bool) (c z : ℕ) (ds : List ℕ) → R whole c ds z → ((es : List ℕ) → R (λ w. true) c es z → length ds ≤ length es) → RouteOf name whole c ds z
   least_once whole c z [] r least = (r.0, r.1)
   least_once whole c z (d ∷ ds) r least = (
     r.0,
@@ -81,7 +81,7 @@ module _ (nodes : ℕ) (ends : List (ℕ × ℕ)) (next name : ℕ → ℕ) (map
         (λ es route. let long = least (d ∷ es) (refl, r.1, r.2, route) in omega (arith, long)),
   )
 
-  route_low : (whole : ℕ → Bool) (ds : List ℕ) (c z : ℕ) → R whole c ds z → Low nodes ends next name map faces ds
+  pub route_low : (whole : ℕ → Bool) (ds : List ℕ) (c z : ℕ) → R whole c ds z → Low nodes ends next name map faces ds
   route_low whole [] c z r = tt
   route_low whole (d ∷ ds) c z r = (r.1, route_low whole ds (name (reverse_of d)) z r.3)
 

@@ -173,15 +173,33 @@ below_or A B (suc n) each = elim (each n (omega arith)) [
   ]
 ]
 
-module _ (g : Graph) (edges : List ℕ) (walks : ℕ → List ℕ) (is_graph : IsGraph g) where
+-- what is kept while nodes come apart
+abbrev pub IsKept : ℕ → (Graph → (ℕ → ℕ) → (ℕ → Bool) → Type 0) → Type 0
+IsKept nodes K =
+    (web : Graph) (next : ℕ → ℕ) (four : ℕ → Bool) (ground : IsGround nodes web next four) (a : ℕ) (a_in : a < 2 * length web.ends)
+    (holds : four (tail_of web.ends a) ≡ true) → K web next four →
+    K (record { nodes = suc web.nodes; ends = split_ends nodes web next four ground a a_in holds })
+    (split_turns nodes web next four ground a a_in holds) (fewer nodes web next four ground a a_in holds)
+
+module _ (g : Graph) (edges : List ℕ) (walks : ℕ → List ℕ) (is_graph : IsGraph g) (K : Graph → (ℕ → ℕ) → (ℕ → Bool) → Type 0) (keeps : IsKept g.nodes K) where
   pub record Smoother (count : ℕ) : Type 0 where
     pub web : Graph
     pub next : ℕ → ℕ
     pub four : ℕ → Bool
     pub rough : IsRough g edges web next four walks
+    pub kept : K web next four
     pub less : suc (count_below web.nodes four) ≡ count
 
-  module _ (web : Graph) (next : ℕ → ℕ) (four : ℕ → Bool) (rough : IsRough g edges web next four walks) where
+  -- all that touched have come apart
+  pub record Smoothed (count : ℕ) : Type 0 where
+    pub web : Graph
+    pub next : ℕ → ℕ
+    pub four : ℕ → Bool
+    pub track : IsTrack g edges web next four walks
+    pub kept : K web next four
+    pub few : count_below web.nodes four ≤ count
+
+  module _ (web : Graph) (next : ℕ → ℕ) (four : ℕ → Bool) (rough : IsRough g edges web next four walks) (held : K web next four) where
     abbrev Straight : ℕ → Type 0
     Straight e = (i : ℕ) → i < length (walks e) → suc i < length (walks e) → straight_on web.ends four next (reverse_of (at (walks e) i)) ≡ at (walks e) (suc i)
 
@@ -224,6 +242,7 @@ module _ (g : Graph) (edges : List ℕ) (walks : ℕ → List ℕ) (is_graph : I
           web = W;
           next = N;
           four = F;
+          kept = keeps web next four rough.ground a a_in holds held;
           less = sym count;
           rough = record {
             edge_list = rough.edge_list;
@@ -302,22 +321,18 @@ module _ (g : Graph) (edges : List ℕ) (walks : ℕ → List ℕ) (is_graph : I
           once = rough.once;
         }
 
-  pub smooth_within : (count : ℕ) (web : Graph) (next : ℕ → ℕ) (four : ℕ → Bool) → IsRough g edges web next four walks → count_below web.nodes four ≤ count →
-      HasDrawingOf g edges count
-  smooth_within zero web next four rough low = elim (all_or (λ e. Straight web next four rough e) (Smoother (count_below web.nodes four)) edges (straight_or web next four rough)) [
+  pub smooth_within : (count : ℕ) (web : Graph) (next : ℕ → ℕ) (four : ℕ → Bool) → IsRough g edges web next four walks → K web next four →
+      count_below web.nodes four ≤ count → Smoothed count
+  smooth_within zero web next four rough held low = elim (all_or (λ e. Straight web next four rough held e) (Smoother (count_below web.nodes four)) edges (straight_or web next four rough held)) [
     | inr b ↦ let less = b.less in absurd (omega (arith, less, low))
-    | inl goes ↦
-        let d = tracks_give_drawings g edges web next four walks is_graph (as_track web next four rough goes) in
-        (d.0, d.1, d.2, let few = d.3 in omega (arith, few, low))
+    | inl goes ↦ record { web = web; next = next; four = four; track = as_track web next four rough held goes; kept = held; few = low }
   ]
-  smooth_within (suc count) web next four rough low = elim (all_or (λ e. Straight web next four rough e) (Smoother (count_below web.nodes four)) edges (straight_or web next four rough)) [
+  smooth_within (suc count) web next four rough held low = elim (all_or (λ e. Straight web next four rough held e) (Smoother (count_below web.nodes four)) edges (straight_or web next four rough held)) [
     | inr b ↦
         let less = b.less in
-        let d = smooth_within count b.web b.next b.four b.rough (omega (arith, less, low)) in
-        (d.0, d.1, d.2, let few = d.3 in omega (arith, few))
-    | inl goes ↦
-        let d = tracks_give_drawings g edges web next four walks is_graph (as_track web next four rough goes) in
-        (d.0, d.1, d.2, let few = d.3 in omega (arith, few, low))
+        let d = smooth_within count b.web b.next b.four b.rough b.kept (omega (arith, less, low)) in
+        record { web = d.web; next = d.next; four = d.four; track = d.track; kept = d.kept; few = let few = d.few in omega (arith, few) }
+    | inl goes ↦ record { web = web; next = next; four = four; track = as_track web next four rough held goes; kept = held; few = low }
   ]
 
 -- ---- from the definition
@@ -399,11 +414,17 @@ module _ (g : Graph) (edges : List ℕ) (further : ℕ) (web : Graph) (next : �
       some [] differ walk = absurd (differ walk)
       some (d ∷ ds) differ walk = omega arith
 
-  pub mesh_drawn : HasDrawingOf g edges further
-  mesh_drawn = smooth_within g edges walks is_graph further web next quad mesh_rough
+  pub mesh_smoothed : (K : Graph → (ℕ → ℕ) → (ℕ → Bool) → Type 0) (keeps : IsKept g.nodes K) → K web next quad → Smoothed g edges walks is_graph K keeps further
+  mesh_smoothed K keeps held = smooth_within g edges walks is_graph K keeps further web next quad mesh_rough held
       (let few = none_below g.nodes further quad (λ v low. elim (cases_Bool (quad v)) [ inr fails ↦ fails | inl h ↦ let high = (quad_parts v h).0 in absurd (omega (arith, high, low)) ]) in
       let same : count_below web.nodes quad ≡ count_below (g.nodes + further) quad = ap (λ k. count_below k quad) mesh.nodes in
       omega (arith, few, same))
+
+  pub mesh_drawn : HasDrawingOf g edges further
+  mesh_drawn =
+      let s = mesh_smoothed (λ w n f. Unit {0}) (λ w n f ground a a_in holds held. tt) tt in
+      let d = tracks_give_drawings g edges s.web s.next s.four walks is_graph s.track in
+      (d.0, d.1, d.2, let few = d.3 in let low = s.few in omega (arith, few, low))
 
 pub meshes_give_drawings : MeshesGiveDrawings
 meshes_give_drawings g edges further web next walks is_graph mesh = mesh_drawn g edges further web next walks is_graph mesh

@@ -68,35 +68,35 @@ module _ (g : Graph) (edges : List ℕ) (ord : ℕ → List ℕ) (next : ℕ →
   segs-length : (e : ℕ) → length (segs e) ≡ suc (length (ord e))
   segs-length e = through-length (ends_at g.ends e).0 (map (node e) (ord e)) (ends_at g.ends e).1 ∙ ap suc (mids-length e)
 
-  W-length : (e : ℕ) → length (W e) ≡ suc (length (ord e))
+  pub W-length : (e : ℕ) → length (W e) ≡ suc (length (ord e))
   W-length e = darts-length (F e) (length (ord e))
 
   segs_place : (e : ℕ) → place (size_of segs) edges e ≡ F e
   segs_place e = place-same (size_of segs) (λ x. suc (length (ord x))) edges e (λ x x_in. segs-length x) ∙ place-first_segment ord edges e
 
-  W_place : (e : ℕ) → place (size_of W) edges e ≡ F e
+  pub W_place : (e : ℕ) → place (size_of W) edges e ≡ F e
   W_place e = place-same (size_of W) (λ x. suc (length (ord x))) edges e (λ x x_in. W-length x) ∙ place-first_segment ord edges e
 
-  seg_at : (e i : ℕ) → has edges e ≡ true → i ≤ length (ord e) → (F e + i < length web.ends) × (ends_at web.ends (F e + i) ≡ ends_at (segs e) i)
+  pub seg_at : (e i : ℕ) → has edges e ≡ true → i ≤ length (ord e) → (F e + i < length web.ends) × (ends_at web.ends (F e + i) ≡ ends_at (segs e) i)
   seg_at e i e_in i_in =
       let size = segs-length e in
       let p = segs_place e in
       let low = place_in segs edges e i e_in (omega (arith, size, i_in)) in
       (omega (arith, low, p), ap (λ k. ends_at web.ends (k + i)) (sym p) ∙ at_place segs edges e i (0, 0) e_in (omega (arith, size, i_in)))
 
-  first_tail : (e : ℕ) → has edges e ≡ true → tail_of web.ends (2 * F e) ≡ (ends_at g.ends e).0
+  pub first_tail : (e : ℕ) → has edges e ≡ true → tail_of web.ends (2 * F e) ≡ (ends_at g.ends e).0
   first_tail e e_in =
       let z : F e + 0 ≡ F e = omega arith in
       tail-even web.ends (F e) ∙ ap (λ k. (ends_at web.ends k).0) (sym z) ∙ ap (λ p. p.0) (seg_at e 0 e_in (omega arith)).1
       ∙ through_first (ends_at g.ends e).0 (map (node e) (ord e)) (ends_at g.ends e).1
 
-  last_tail : (e : ℕ) → has edges e ≡ true → tail_of web.ends (2 * (F e + length (ord e)) + 1) ≡ (ends_at g.ends e).1
+  pub last_tail : (e : ℕ) → has edges e ≡ true → tail_of web.ends (2 * (F e + length (ord e)) + 1) ≡ (ends_at g.ends e).1
   last_tail e e_in =
       tail-odd web.ends (F e + length (ord e)) ∙ ap (λ p. p.1) (seg_at e (length (ord e)) e_in (omega arith)).1
       ∙ ap (λ k. (ends_at (segs e) k).1) (sym (mids-length e)) ∙ through_last (ends_at g.ends e).0 (map (node e) (ord e)) (ends_at g.ends e).1
 
   -- the two darts at the crossing i of e
-  seam_tails : (e i : ℕ) → has edges e ≡ true → i < length (ord e) → (tail_of web.ends (2 * (F e + i) + 1) ≡ node e (at (ord e) i)) × (tail_of web.ends (2 * suc (F e + i)) ≡ node e (at (ord e) i))
+  pub seam_tails : (e i : ℕ) → has edges e ≡ true → i < length (ord e) → (tail_of web.ends (2 * (F e + i) + 1) ≡ node e (at (ord e) i)) × (tail_of web.ends (2 * suc (F e + i)) ≡ node e (at (ord e) i))
   seam_tails e i e_in i_in =
       let mid = through_mid (ends_at g.ends e).0 (map (node e) (ord e)) (ends_at g.ends e).1 i (let size = mids-length e in omega (arith, size, i_in)) in
       let name = at-map (node e) (ord e) i i_in in
@@ -131,7 +131,7 @@ module _ (g : Graph) (edges : List ℕ) (ord : ℕ → List ℕ) (next : ℕ →
   abbrev all : List ℕ
   all = flat_map W edges
 
-  all_at : (s : ℕ) → s < length all → at all s ≡ 2 * s
+  pub all_at : (s : ℕ) → s < length all → at all s ≡ 2 * s
   all_at s s_in =
       let f = found_at W edges distinct s s_in in
       let size = W-length f.0 in

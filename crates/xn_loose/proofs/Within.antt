@@ -87,24 +87,13 @@ faces_have_names nodes ends next map =
 
 module _ (nodes : ℕ) (ends : List (ℕ × ℕ)) (next name : ℕ → ℕ) (whole : ℕ → Bool) (map : IsMap nodes ends next) (flat : MeetsEuler nodes ends next)
     (faces : AreFaceNames ends next name whole) (y z : ℕ) (y_in : y < 2 * length ends) (z_in : z < 2 * length ends) (is_whole : whole (name y) ≡ true)
-    (one_name : name y ≡ name z) (two_nodes : tail_of ends y ≢ tail_of ends z) where
-  pub before_y : (c : ℕ) × (c < 2 * length ends) × (next c ≡ y)
-  before_y = source_of (2 * length ends) next map.permutes y y_in
-
-  pub before_z : (c : ℕ) × (c < 2 * length ends) × (next c ≡ z)
-  before_z = source_of (2 * length ends) next map.permutes z z_in
-
-  abbrev c : ℕ
-  c = before_y.0
-
-  abbrev p : ℕ
-  p = before_z.0
-
+    (one_name : name y ≡ name z) (two_nodes : tail_of ends y ≢ tail_of ends z) (c p : ℕ) (c_in : c < 2 * length ends) (p_in : p < 2 * length ends)
+    (c_to_y : next c ≡ y) (p_to_z : next p ≡ z) (ends2 : List (ℕ × ℕ)) (turn2 : ℕ → ℕ) (comes : IsInsertion nodes ends next (after c) (after p) ends2 turn2) where
   tail_c : tail_of ends c ≡ tail_of ends y
-  tail_c = sym (map.same_node c before_y.1) ∙ ap (tail_of ends) before_y.2
+  tail_c = sym (map.same_node c c_in) ∙ ap (tail_of ends) c_to_y
 
   tail_p : tail_of ends p ≡ tail_of ends z
-  tail_p = sym (map.same_node p before_z.1) ∙ ap (tail_of ends) before_z.2
+  tail_p = sym (map.same_node p p_in) ∙ ap (tail_of ends) p_to_z
 
   c_p : c ≢ p
   c_p same = two_nodes (sym tail_c ∙ ap (tail_of ends) same ∙ tail_p)
@@ -115,54 +104,44 @@ module _ (nodes : ℕ) (ends : List (ℕ × ℕ)) (next name : ℕ → ℕ) (who
   abbrev b : ℕ
   b = 2 * length ends + 1
 
-  abbrev ends2 : List (ℕ × ℕ)
-  ends2 = ends ++ (tail_of ends c, tail_of ends p) ∷ []
-
   abbrev inner : ℕ → ℕ
   inner = stand_at (after p) b next
-
-  abbrev turn2 : ℕ → ℕ
-  turn2 x = stand_at (after c) a inner x
-
-  comes : IsInsertion nodes ends next (after c) (after p) ends2 turn2
-  comes = record {
-    first = before_y.1;
-    second = before_z.1;
-    two_nodes = λ same. two_nodes (sym tail_c ∙ same ∙ tail_p);
-    ends_more = refl;
-    turns = λ x x_in. refl;
-  }
 
   one_face : Reaches (face_step next) (next c) (next p)
   one_face =
       let there = faces.one y z y_in z_in is_whole one_name in
-      (there.0, ap (iterate (face_step next) there.0) before_y.2 ∙ there.1 ∙ sym before_z.2)
+      (there.0, ap (iterate (face_step next) there.0) c_to_y ∙ there.1 ∙ sym p_to_z)
 
   size2 : length ends2 ≡ suc (length ends)
-  size2 = let sum = length-append ends ((tail_of ends c, tail_of ends p) ∷ []) in omega (arith, sum)
+  size2 = let sum = length-append ends ((tail_of ends c, tail_of ends p) ∷ []) in let is = ap length comes.ends_more in omega (arith, sum, is)
 
   c_low : c < 2 * length ends
-  c_low = before_y.1
+  c_low = c_in
 
   p_low : p < 2 * length ends
-  p_low = before_z.1
+  p_low = p_in
+
+  turn_is : (x : ℕ) → x < 2 * length ends2 → turn2 x ≡ stand_at (after c) a inner x
+  turn_is x x_in = comes.turns x (omega (arith, x_in, size2))
 
   turn_c : turn2 c ≡ a
-  turn_c = stand_at_dart c a inner
+  turn_c = turn_is c (omega (arith, c_low, size2)) ∙ stand_at_dart c a inner
 
   turn_a : turn2 a ≡ y
-  turn_a = stand_new c a inner (λ e. omega (arith, e, c_low)) ∙ stand_other p b next c c_p (λ e. omega (arith, e, c_low)) ∙ before_y.2
+  turn_a = turn_is a (omega (arith, size2)) ∙ stand_new c a inner (λ e. omega (arith, e, c_low)) ∙ stand_other p b next c c_p (λ e. omega (arith, e, c_low)) ∙ c_to_y
 
   turn_else : (x : ℕ) → x < 2 * length ends → x ≢ c → x ≢ p → turn2 x ≡ next x
-  turn_else x x_in not_c not_p = stand_other c a inner x not_c (λ e. omega (arith, e, x_in)) ∙ stand_other p b next x not_p (λ e. omega (arith, e, x_in))
+  turn_else x x_in not_c not_p =
+      turn_is x (omega (arith, x_in, size2)) ∙ stand_other c a inner x not_c (λ e. omega (arith, e, x_in)) ∙ stand_other p b next x not_p (λ e. omega (arith, e, x_in))
 
   turn_p : turn2 p ≡ b
-  turn_p = stand_other c a inner p (λ e. c_p (sym e)) (λ e. omega (arith, e, p_low)) ∙ stand_at_dart p b next
+  turn_p = turn_is p (omega (arith, p_low, size2)) ∙ stand_other c a inner p (λ e. c_p (sym e)) (λ e. omega (arith, e, p_low)) ∙ stand_at_dart p b next
 
   turn_b : turn2 b ≡ z
-  turn_b = stand_other c a inner b (λ e. omega (arith, e, c_low)) (λ e. omega (arith, e)) ∙ stand_new p b next (λ e. omega (arith, e, p_low)) ∙ before_z.2
+  turn_b = turn_is b (omega (arith, size2)) ∙ stand_other c a inner b (λ e. omega (arith, e, c_low)) (λ e. omega (arith, e))
+      ∙ stand_new p b next (λ e. omega (arith, e, p_low)) ∙ p_to_z
 
-  abbrev names2 : ℕ → ℕ
+  abbrev pub names2 : ℕ → ℕ
   names2 x = cond (eqb x a) (name y) (cond (eqb x b) (name y) (name x))
 
   names_a : names2 a ≡ name y
@@ -175,8 +154,8 @@ module _ (nodes : ℕ) (ends : List (ℕ × ℕ)) (next name : ℕ → ℕ) (who
   names_low x x_in = cond-false _ _ _ (ne_eqb x a (λ e. omega (arith, e, x_in))) ∙ cond-false _ _ _ (ne_eqb x b (λ e. omega (arith, e, x_in)))
 
   names_at : (x : ℕ) → x < 2 * length ends → (reverse_of x ≡ c) ⊎ (reverse_of x ≡ p) → name x ≡ name y
-  names_at x x_in (inl is) = sym (faces.keeps x x_in) ∙ ap (λ k. name (next k)) is ∙ ap name before_y.2
-  names_at x x_in (inr is) = sym (faces.keeps x x_in) ∙ ap (λ k. name (next k)) is ∙ ap name before_z.2 ∙ sym one_name
+  names_at x x_in (inl is) = sym (faces.keeps x x_in) ∙ ap (λ k. name (next k)) is ∙ ap name c_to_y
+  names_at x x_in (inr is) = sym (faces.keeps x x_in) ∙ ap (λ k. name (next k)) is ∙ ap name p_to_z ∙ sym one_name
 
   keeps_low : (x : ℕ) → x < 2 * length ends → names2 (turn2 (reverse_of x)) ≡ names2 x
   keeps_low x x_in =
@@ -237,22 +216,35 @@ module _ (nodes : ℕ) (ends : List (ℕ × ℕ)) (next name : ℕ → ℕ) (who
     is_map = map_more nodes ends ends2 (after c) (after p) next turn2 map comes;
     flat = insertion_flat nodes ends ends2 (after c) (after p) next turn2 map comes (inl one_face) flat;
     size = size2;
-    tails = λ x x_in. tail-push ends _ x x_in;
-    tail_from = tail-push_even ends (tail_of ends c, tail_of ends p) ∙ tail_c;
-    tail_to = tail-push_odd ends (tail_of ends c, tail_of ends p) ∙ tail_p;
-    turns = λ x x_in not_y not_z. turn_else x x_in (λ e. not_y (ap next e ∙ before_y.2)) (λ e. not_z (ap next e ∙ before_z.2));
-    turns_in = λ x x_in is. let e : x ≡ c = map.permutes.apart x c x_in c_low (is ∙ sym before_y.2) in ap turn2 e ∙ turn_c;
+    tails = λ x x_in. ap (λ l. tail_of l x) comes.ends_more ∙ tail-push ends _ x x_in;
+    tail_from = ap (λ l. tail_of l a) comes.ends_more ∙ tail-push_even ends (tail_of ends c, tail_of ends p) ∙ tail_c;
+    tail_to = ap (λ l. tail_of l b) comes.ends_more ∙ tail-push_odd ends (tail_of ends c, tail_of ends p) ∙ tail_p;
+    turns = λ x x_in not_y not_z. turn_else x x_in (λ e. not_y (ap next e ∙ c_to_y)) (λ e. not_z (ap next e ∙ p_to_z));
+    turns_in = λ x x_in is. let e : x ≡ c = map.permutes.apart x c x_in c_low (is ∙ sym c_to_y) in ap turn2 e ∙ turn_c;
     turns_from = turn_a;
-    turns_back = λ x x_in is. let e : x ≡ p = map.permutes.apart x p x_in p_low (is ∙ sym before_z.2) in ap turn2 e ∙ turn_p;
+    turns_back = λ x x_in is. let e : x ≡ p = map.permutes.apart x p x_in p_low (is ∙ sym p_to_z) in ap turn2 e ∙ turn_p;
     turns_to = turn_b;
     faces = faces2;
     names_kept = names_low;
   }
 
 pub steps_within : StepsWithin
-steps_within nodes ends next name whole map flat faces y z y_in z_in is_whole same apart = (
-  ends2 nodes ends next name whole map flat faces y z y_in z_in is_whole same apart,
-  turn2 nodes ends next name whole map flat faces y z y_in z_in is_whole same apart,
-  names2 nodes ends next name whole map flat faces y z y_in z_in is_whole same apart,
-  is_within nodes ends next name whole map flat faces y z y_in z_in is_whole same apart,
-)
+steps_within nodes ends next name whole map flat faces y z y_in z_in is_whole same apart =
+    let c = source_of (2 * length ends) next map.permutes y y_in in
+    let p = source_of (2 * length ends) next map.permutes z z_in in
+    let more = ends ++ (tail_of ends c.0, tail_of ends p.0) ∷ [] in
+    let turn = stand_at (after c.0) (2 * length ends) (stand_at (after p.0) (2 * length ends + 1) next) in
+    let at_c : tail_of ends c.0 ≡ tail_of ends y = sym (map.same_node c.0 c.1) ∙ ap (tail_of ends) c.2 in
+    let at_p : tail_of ends p.0 ≡ tail_of ends z = sym (map.same_node p.0 p.1) ∙ ap (tail_of ends) p.2 in
+    let comes : IsInsertion nodes ends next (after c.0) (after p.0) more turn = record {
+      first = c.1;
+      second = p.1;
+      two_nodes = λ one. apart (sym at_c ∙ one ∙ at_p);
+      ends_more = refl;
+      turns = λ x x_in. refl;
+    } in (
+      more,
+      turn,
+      names2 nodes ends next name whole map flat faces y z y_in z_in is_whole same apart c.0 p.0 c.1 p.1 c.2 p.2 more turn comes,
+      is_within nodes ends next name whole map flat faces y z y_in z_in is_whole same apart c.0 p.0 c.1 p.1 c.2 p.2 more turn comes,
+    )

@@ -1,8 +1,8 @@
 // Answers are given only after these exact checks.
-ghost use Rattle.std.specs.Prelude.{◌≡◌, ◌<◌, ℕ, ℤ, pos, ◌*ℤ◌, ◌<ℤ◌, ◌≤ℤ◌, ◌↔◌, IsTrue, IfOk, length, true};
+ghost use Rattle.std.specs.Prelude.{◌≡◌, ◌<◌, ℤ, pos, ◌*ℤ◌, ◌<ℤ◌, IsTrue, IfOk, length, true};
 ghost use Rattle.xn_lp.specs.Box.{entry};
-ghost use Rattle.xn_lp.specs.Program.{NamesColumns, row_at, IsBest, IsRay};
-ghost use Rattle.xn_lp.specs.Whole.{number_at, terms_total, row_total, cost_total, AreWithin, AreNatural, MeetsRows, NameBelow, IsPointTotal, IsBestTotal};
+ghost use Rattle.xn_lp.specs.Program.{NamesColumns, IsBest, IsRay};
+ghost use Rattle.xn_lp.specs.Whole.{number_at, terms_total, cost_total, AreWithin, AreNatural, MeetsRows, NameBelow, IsPointTotal, IsBestTotal};
 
 use crate::prices::least_total;
 use crate::program::Lp;

@@ -1,5 +1,5 @@
 // One step of the dual simplex method, by Bland's rule: of those that may leave or enter, the first in the order.
-ghost use Rattle.std.specs.Prelude.{◌≡◌, ◌≢◌, ◌<◌, pos, IsTrue, IfSome, vec_len};
+ghost use Rattle.std.specs.Prelude.{◌≢◌, ◌<◌, pos, IsTrue, IfSome, vec_len};
 
 use crate::stop::Stop;
 use crate::table::{Basic, Nonbasic, Table, Variable, add_times, is_zero, one, put, zero};

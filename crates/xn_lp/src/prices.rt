@@ -1,5 +1,5 @@
 // The prices of the columns under multipliers of the rows, and what the rows then cost at the least.
-ghost use Rattle.std.specs.Prelude.{◌≡◌, ℕ, ◌<◌, ℤ, pos, ◌+ℤ◌, ◌-ℤ◌, ◌*ℤ◌, IfOk, OnOk, length, slice_index_or};
+ghost use Rattle.std.specs.Prelude.{◌≡◌, ℕ, ◌<◌, ℤ, ◌-ℤ◌, ◌*ℤ◌, IfOk, OnOk, length};
 ghost use Rattle.xn_lp.specs.Program.{NamesColumns};
 ghost use Rattle.xn_lp.specs.Whole.{total_to, number_at, terms_total, weighted_total, low_part, NameBelow, cost_total, combined_total, combined_reach, IsLeastTotal};
 

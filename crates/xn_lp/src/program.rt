@@ -1,5 +1,5 @@
 // Linear programs and their answers.
-ghost use Rattle.std.specs.Prelude.{◌↔◌, IsTrue, length};
+ghost use Rattle.std.specs.Prelude.{◌↔◌, IsTrue};
 
 use crate::items::Items;
 use crate::terms::name_below;

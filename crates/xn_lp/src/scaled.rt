@@ -1,8 +1,7 @@
 // Fractions brought to one denominator.
-ghost use Rattle.std.specs.Prelude.{◌≡◌, ◌<◌, ◌*◌, ℕ, ℤ, pos, ◌*ℤ◌, ◌<ℤ◌, ◌≤ℤ◌, ◌↔◌, IsTrue, IfOk, length};
-ghost use Rattle.std.specs.Int.{◌∣◌};
+ghost use Rattle.std.specs.Prelude.{◌≡◌, ◌<◌, ◌*◌, ℕ, ℤ, pos, ◌<ℤ◌, IfOk, length};
 ghost use Rattle.xn_lp.specs.Box.{entry};
-ghost use Rattle.xn_lp.specs.Whole.{number_at, IsOver, AreOver, Divides, AreWithin};
+ghost use Rattle.xn_lp.specs.Whole.{number_at, IsOver, AreOver, Divides};
 
 use crate::stop::Stop;
 use crate::whole::Whole;

@@ -1,5 +1,5 @@
 // The answer of a program.
-ghost use Rattle.std.specs.Prelude.{◌≡◌, ◌↔◌, ◌<◌, ◌*◌, ◌+◌, length, IfOk, IfErr, IfSome, ℕ};
+ghost use Rattle.std.specs.Prelude.{◌≡◌, ◌↔◌, ◌<◌, ◌*◌, ◌+◌, length, IfOk, IfErr, IfSome};
 ghost use Rattle.xn_lp.specs.Program.{NamesColumns, AnswerHolds, HasCause, HasNoPoint, IsNothing, IsTooLarge};
 
 use crate::checks::{is_best, is_ray};

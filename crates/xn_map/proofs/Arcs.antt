@@ -6,10 +6,11 @@ use Rattle.xn_model.specs.Lists.{position_in}
 use Rattle.xn_model.specs.Map.{IsMap, tail_of}
 use Rattle.xn_model.specs.Permutation.{Permutes, Reaches, iterate, walk}
 use Rattle.xn_surgery.specs.Splitting.{InArc}
+use Rattle.xn_model.proofs.Decide.{iterate-step}
 use Rattle.xn_map.specs.Anchored.{IsDartOf, StaysBehind}
 use Rattle.xn_map.specs.Cutting.{MovesArc, MovesDart}
 use Rattle.xn_map.specs.Passing.{MovesNode}
-use Rattle.xn_ring.proofs.Orbits.{comes_back, iterate-step, iterate_below, within}
+use Rattle.xn_ring.proofs.Orbits.{comes_back, iterate_below, within}
 
 -- a number that is met within k steps is met no later on a longer walk
 same_position : (f : ℕ → ℕ) (k d b i : ℕ) → i < k → iterate f i d ≡ b → position_in (walk f (suc k) d) b ≡ position_in (walk f k d) b

@@ -1,15 +1,9 @@
 -- How many numbers below a bound pass a test.
-use Rattle.std.proofs.Common.{◌≡◌, ℕ, zero, suc, ◌+◌, ◌≤◌, Bool, true, false, cond, [], ◌∷◌, ◌++◌, refl, ◌∙◌, ap, arith}
+use Rattle.std.proofs.Common.{◌≡◌, ℕ, zero, suc, ◌+◌, Bool, true, false, cond, [], ◌∷◌, ◌++◌, refl, ◌∙◌, ap, arith}
 use Rattle.std.specs.List.{count_by, range_with_len}
 use Rattle.std.proofs.lemmas.List.Sums.{sum_by-append}
 use Rattle.xn_model.specs.Lists.{one_if}
 use Rattle.xn_model.specs.Permutation.{count_below}
-
-pub count_below-le : (n : ℕ) (p : ℕ → Bool) → count_below n p ≤ n
-count_below-le zero p = omega arith
-count_below-le (suc n) p =
-    let one : one_if (p n) ≤ 1 = elim (p n) as (λ b. one_if b ≤ 1) [ true ↦ omega arith | false ↦ omega arith ] in
-    omega (arith, count_below-le n p)
 
 pub count_below-yes : (d : ℕ) (p : ℕ → Bool) → p d ≡ true → count_below (d + 1) p ≡ count_below d p + 1
 count_below-yes d p passes =

@@ -1,5 +1,5 @@
 -- Darts that take the places of others.
-use Rattle.std.proofs.Common.{◌≡◌, ◌≢◌, ℕ, suc, ◌+◌, ◌*◌, ◌/◌, ◌%◌, ◌<◌, ◌⊎◌, inl, inr, cond, eqb, List, length, refl, sym, ◌∙◌, ap, subst, arith}
+use Rattle.std.proofs.Common.{◌≡◌, ◌≢◌, ℕ, suc, ◌+◌, ◌*◌, ◌/◌, ◌%◌, ◌<◌, ◌⊎◌, inl, inr, cond, eqb, List, length, refl, sym, ◌∙◌, ap, arith}
 use Rattle.std.proofs.lemmas.Bool.{cases_eq, cond-true, cond-false, eq-eqb, ne_eqb}
 use Rattle.xn_model.specs.Lists.{at}
 use Rattle.xn_model.specs.Permutation.{IsSplice, Permutes}
@@ -62,24 +62,6 @@ module _ (n x d before : ℕ) (old mid new : ℕ → ℕ) (x_in : x < n) (d_in :
             let moves : old y ≢ x = λ same. not_before (permutes.apart y before y_in before_in (same ∙ sym leads)) in
             one.others y y_in not_before not_d ∙ sym (name_other (old y) moves)
       ]
-
--- nothing to fill
-pub filled_same : (s last : ℕ) (next : List ℕ) → IsOut s last next → s ≡ last → IsFilled s last next next
-filled_same s last next out same =
-    let e = dart_before s last in
-    let stays : (d : ℕ) → d < 2 * last → e d ≡ d = λ d d_in. cond-false _ _ _ (ne_eqb (d / 2) s (λ half. omega (arith, half, same, d_in))) in
-    let low : (d : ℕ) → d < 2 * last → at next d < 2 * last = λ d d_in.
-    let wide = out.permutes.below d (omega (arith, out.size, d_in)) in
-    let first : at next d ≢ 2 * s = λ hit. let one = out.permutes.apart d (2 * s) (omega (arith, out.size, d_in)) (omega (arith, out.size, same)) (hit ∙ sym out.first_alone) in omega (arith, one, same, d_in) in
-    let second : at next d ≢ 2 * s + 1 = λ hit. let one = out.permutes.apart d (2 * s + 1) (omega (arith, out.size, d_in)) (omega (arith, out.size, same)) (hit ∙ sym out.second_alone) in omega (arith, one, same, d_in) in
-    omega (arith, wide, out.size, first, second, same) in
-    record {
-      same_length = refl;
-      turns = λ d d_in. stays (at next d) (low d d_in) ∙ ap (at next) (sym (stays d d_in));
-      below = low;
-      first_alone = let P : ℕ → Type 0 = λ k. at next (2 * k) ≡ 2 * k in subst P same out.first_alone;
-      second_alone = let P : ℕ → Type 0 = λ k. at next (2 * k + 1) ≡ 2 * k + 1 in subst P same out.second_alone;
-    }
 
 -- the two darts of the last segment take the places of those of s
 module _ (s last : ℕ) (old half new : List ℕ) (out : IsOut s last old) (differ : s ≢ last)

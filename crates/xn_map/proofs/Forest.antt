@@ -11,9 +11,11 @@ use Rattle.xn_model.specs.Lists.{at}
 use Rattle.xn_model.specs.Map.{component_count, component_labels, join_components, relabel}
 use Rattle.xn_model.specs.Permutation.{count_below, iterate}
 use Rattle.xn_model.proofs.Components.{at-join_components, cases_relabel}
+use Rattle.xn_model.proofs.Tests.{same_tests}
+use Rattle.xn_model.proofs.Decide.{iterate-step}
 use Rattle.xn_map.specs.Forest.{HoldsComponents, IsForest, root_of}
-use Rattle.xn_ring.proofs.Counting.{count-same, same_tests}
-use Rattle.xn_ring.proofs.Orbits.{iterate-add, iterate-step}
+use Rattle.xn_ring.proofs.Counting.{count-same}
+use Rattle.xn_ring.proofs.Orbits.{iterate-add}
 
 cases_min : (a b : ℕ) → (min a b ≡ a) ⊎ (min a b ≡ b)
 cases_min a b = elim (cases_lt a b) [ inl low ↦ inl (omega arith) | inr high ↦ inr (omega arith) ]

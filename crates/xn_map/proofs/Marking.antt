@@ -13,9 +13,6 @@ abbrev pub MarksWalk : ℕ → (ℕ → ℕ) → ℕ → ℕ → List Bool → L
 MarksWalk n f d k old new =
     (x : ℕ) → x < n → (is_marked new x ≡ true) ↔ ((is_marked old x ≡ true) ⊎ ((j : ℕ) × (j < k) × (iterate f j d ≡ x)))
 
-pub MarksWalk-none : (n : ℕ) (f : ℕ → ℕ) (d : ℕ) (old : List Bool) → MarksWalk n f d 0 old old
-MarksWalk-none n f d old x x_in = (λ m. inl m, λ s. elim s [ inl m ↦ m | inr found ↦ absurd (omega (arith, found.1)) ])
-
 pub is_marked-set : (marks : List Bool) (e x : ℕ) → e < length marks → ((x ≡ e) × (is_marked (set marks e true) x ≡ true)) ⊎ ((x ≢ e) × (is_marked (set marks e true) x ≡ is_marked marks x))
 is_marked-set marks e x e_in = elim (cases_eq x e) [
   | inl same ↦ inl (same, ap (is_marked (set marks e true)) same ∙ get_or-set_same marks e true false e_in)

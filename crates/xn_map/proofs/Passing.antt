@@ -7,7 +7,7 @@ use Rattle.xn_model.specs.Graph.{Graph, EndsIn}
 use Rattle.xn_model.specs.Lists.{at}
 use Rattle.xn_model.specs.Map.{IsMap, reverse_of, tail_of}
 use Rattle.xn_model.specs.Permutation.{Permutes, iterate}
-use Rattle.xn_model.proofs.Darts.{cases_dart, reverse-even, reverse-odd, reverse_below}
+use Rattle.xn_model.proofs.Darts.{cases_dart, reverse-even, reverse-odd, reverse_below, reverse_other}
 use Rattle.xn_graph.specs.Limits.{graph_of}
 use Rattle.xn_ring.proofs.Without.{without-before, without-other}
 use Rattle.xn_genus.specs.Deletion.{dart_before}
@@ -15,18 +15,12 @@ use Rattle.xn_genus.proofs.Compress.{EndsIn_tails, half_reverse, tail_in}
 use Rattle.xn_surgery.specs.Smoothing.{IsSmoothing, dart_smoothed, node_before}
 use Rattle.xn_surgery.proofs.Smooth.{map_smoothed}
 use Rattle.xn_map.specs.Anchored.{IsDartOf, OutlastsAt}
-use Rattle.xn_map.specs.Changes.{IsFilled, TakesOut, TakesPlace, new_name}
+use Rattle.xn_map.specs.Changes.{IsFilled, TakesDartOut, TakesPlace, new_name}
 use Rattle.xn_map.specs.Cutting.{MovesDart}
 use Rattle.xn_map.specs.Listed.{IsListedMap, ListedMap, map_of}
 use Rattle.xn_map.specs.Passing.{AreTwoDarts, HasTwoDarts, LeadsOn, LosesNode, MovesNode, RunsOn, Smooths, dart_run}
 use Rattle.xn_map.proofs.Fill.{dart_before_in}
 use Rattle.xn_map.proofs.Removal.{fewer, tail_before}
-
-pub reverse_other : (q : ℕ) → reverse_of q ≢ q
-reverse_other q same = let c = cases_dart q in elim c.1 [
-  | inl even ↦ omega (arith, ap reverse_of even, reverse-even c.0, same, even)
-  | inr odd ↦ omega (arith, ap reverse_of odd, reverse-odd c.0, same, odd)
-]
 
 cases_name : (x d z : ℕ) → ((z ≡ x) × (new_name x d z ≡ d)) ⊎ ((z ≢ x) × (new_name x d z ≡ z))
 cases_name x d z = elim (cases_eq z x) [
@@ -43,7 +37,7 @@ cases_run p q d = elim (cases_eq d p) [
 -- p is taken out, and has the place of the reverse of q
 module _ (p q : ℕ) (old half new : List ℕ) (p_in : p < length old) (q_in : q < length old) (r_in : reverse_of q < length old) (apart : p / 2 ≢ q / 2)
     (permutes : Permutes (length old) (at old)) (to_q : at old p ≡ q) (to_p : at old q ≡ p)
-    (out : TakesOut p old half) (place : TakesPlace (reverse_of q) p half new) where
+    (out : TakesDartOut p old half) (place : TakesPlace (reverse_of q) p half new) where
   abbrev r : ℕ
   r = reverse_of q
 

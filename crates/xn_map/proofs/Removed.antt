@@ -10,8 +10,9 @@ use Rattle.xn_model.specs.Permutation.{Permutes, Reaches, without}
 use Rattle.xn_graph.specs.Limits.{graph_of}
 use Rattle.xn_genus.specs.Deletion.{IsDeletion, dart_before}
 use Rattle.xn_genus.specs.Live.{without_segment}
+use Rattle.xn_model.proofs.Darts.{reverse_other}
 use Rattle.xn_map.specs.Anchored.{IsDartOf, OutlastsAt}
-use Rattle.xn_map.specs.Changes.{Deletes, IsFilled, IsOut, TakesOut}
+use Rattle.xn_map.specs.Changes.{Deletes, IsFilled, IsOut, TakesDartOut}
 use Rattle.xn_map.specs.Listed.{IsListedMap, ListedMap, map_of}
 use Rattle.xn_ring.proofs.Agreeing.{Permutes-agrees}
 use Rattle.xn_ring.proofs.Without.{Permutes-without, without-at, without-other}
@@ -20,10 +21,10 @@ use Rattle.xn_graph.proofs.Ends.{ends_at-swap_remove, length-swap_remove}
 use Rattle.xn_surgery.proofs.Insert.{without-agree}
 use Rattle.xn_genus.proofs.Compress.{half_reverse}
 use Rattle.xn_map.proofs.Fill.{dart_before_in}
-use Rattle.xn_map.proofs.Passing.{reverse_other, ring_of_two, sides}
+use Rattle.xn_map.proofs.Passing.{ring_of_two, sides}
 
 module _ (m : ListedMap) (listed : IsListedMap m) (s last : ℕ) (s_in : s < length m.web.ends) (last_is : suc last ≡ length m.web.ends)
-    (once twice : List ℕ) (one : TakesOut (2 * s) m.next once) (two : TakesOut (2 * s + 1) once twice) where
+    (once twice : List ℕ) (one : TakesDartOut (2 * s) m.next once) (two : TakesDartOut (2 * s + 1) once twice) where
   abbrev n : ℕ
   n = 2 * length m.web.ends
 

@@ -44,8 +44,8 @@ Deletes old s new =
     (new.web.nodes ≡ old.web.nodes) × IsDeletion old.web.ends (at old.next) s new.web.ends (at new.next)
 
 -- d is alone, and what led to it leads past it
-abbrev pub TakesOut : ℕ → List ℕ → List ℕ → Type 0
-TakesOut d old new = (length new ≡ length old) × ((x : ℕ) → x < length old → at new x ≡ without d (at old) x)
+abbrev pub TakesDartOut : ℕ → List ℕ → List ℕ → Type 0
+TakesDartOut d old new = (length new ≡ length old) × ((x : ℕ) → x < length old → at new x ≡ without d (at old) x)
 
 -- the number of a dart once x is called d
 abbrev pub new_name : ℕ → ℕ → ℕ → ℕ

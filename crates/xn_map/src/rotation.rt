@@ -1,5 +1,5 @@
 // Whether a list of successors turns round each node, once through all its darts.
-ghost use Rattle.std.specs.Prelude.{◌≡◌, ℕ, ◌+◌, ◌*◌, ◌^◌, ◌<◌, ◌≤◌, ◌↔◌, false, length, replicate, IfOk, IsTrue, MatchOption};
+ghost use Rattle.std.specs.Prelude.{◌≡◌, ◌*◌, ◌^◌, ◌<◌, ◌≤◌, ◌↔◌, false, length, replicate, IfOk, IsTrue, MatchOption};
 ghost use Rattle.xn_model.specs.Lists.{at};
 ghost use Rattle.xn_model.specs.Permutation.{Permutes};
 ghost use Rattle.xn_map.specs.Marks.{IsClosed, MarksCycle, is_marked};

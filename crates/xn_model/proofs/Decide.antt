@@ -22,15 +22,20 @@ each_at p (suc n) h d low =
     let both = and_both (p n) (each_below n p) h in
     elim (cases_lt d n) [ inl less ↦ each_at p n both.1 d less | inr more ↦ let same : n ≡ d = omega (arith, low, more) in ap p (sym same) ∙ both.0 ]
 
-step_first : (f : ℕ → ℕ) (k d : ℕ) → iterate f k (f d) ≡ f (iterate f k d)
-step_first f zero d = refl
-step_first f (suc k) d = ap f (step_first f k d)
+-- one step first, or one step last
+pub iterate-step : (f : ℕ → ℕ) (k d : ℕ) → iterate f k (f d) ≡ f (iterate f k d)
+iterate-step f zero d = refl
+iterate-step f (suc k) d = ap f (iterate-step f k d)
+
+pub length-walk : (f : ℕ → ℕ) (k d : ℕ) → length (walk f k d) ≡ k
+length-walk f zero d = refl
+length-walk f (suc k) d = ap suc (length-walk f k (f d))
 
 reach : (f : ℕ → ℕ) (n d e : ℕ) → list_any (λ x. x == e) (walk f n d) ≡ true → Reaches f d e
 reach f zero d e h = absurd (both_ways false refl h)
 reach f (suc n) d e h = elim (or_cases (eqb d e) (list_any (λ x. x == e) (walk f n (f d))) h) [
   | inl here ↦ (0, eqb-true d e here)
-  | inr later ↦ let r = reach f n (f d) e later in (suc r.0, sym (step_first f r.0 d) ∙ r.1)
+  | inr later ↦ let r = reach f n (f d) e later in (suc r.0, sym (iterate-step f r.0 d) ∙ r.1)
 ]
 
 lt_of : (a b : ℕ) → nat_lt a b ≡ true → a < b

@@ -1,6 +1,9 @@
 pub mod ComponentWalks
 pub mod Components
+pub mod Counts
 pub mod Darts
 pub mod Decide
 pub mod Examples
+pub mod Has
 pub mod Ranges
+pub mod Tests

@@ -14,4 +14,5 @@ pub mod Loose
 pub mod Decide
 pub mod Laws
 pub mod ComponentLaws
+pub mod ListLaws
 pub mod Examples

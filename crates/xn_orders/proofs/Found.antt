@@ -7,8 +7,9 @@ use Rattle.std.proofs.lemmas.Map.Keys.{IsDistinct-from_apart}
 use Rattle.xn_model.specs.Graph.{Independent, independent}
 use Rattle.xn_model.specs.Lists.{at, has}
 use Rattle.xn_model.specs.Orders.{IsEdgeList, IsOrders, order_at}
+use Rattle.xn_model.proofs.Has.{place_of}
 use Rattle.xn_orders.specs.Entries.{IsDependent, IsStray, NoEntry}
-use Rattle.xn_orders.proofs.Entered.{edge_below, listed, place_of}
+use Rattle.xn_orders.proofs.Entered.{edge_below, listed}
 
 -- entries that aren't stray are listed, so they are edges
 pub entry_below : (count : ℕ) (edges : List ℕ) (ord : ℕ → List ℕ) → IsEdgeList count edges → NoEntry ord (IsStray edges ord) → (e i : ℕ) → i < length (ord e) → at (ord e) i < count

@@ -1,5 +1,5 @@
 -- The planarised graph of a graph within the limits is a web within the limits.
-use Rattle.std.proofs.Common.{◌≡◌, ℕ, suc, ◌+◌, ◌*◌, ◌<◌, ◌≤◌, inl, inr, Bool, true, false, ◌&&◌, eqb, ltb, List, [], ◌∷◌, ◌++◌, length, map, refl, sym, ◌∙◌, ap, arith, length-append}
+use Rattle.std.proofs.Common.{◌≡◌, ℕ, suc, ◌+◌, ◌*◌, ◌<◌, ◌≤◌, inl, inr, Bool, true, false, ◌&&◌, eqb, ltb, List, [], ◌∷◌, length, map, refl, sym, ◌∙◌, ap, arith, length-append}
 use Rattle.std.specs.List.{AllByRecursion, flat_map, list_any}
 use Rattle.std.proofs.Math.Nat.{mul-le-mul_left}
 use Rattle.std.proofs.lemmas.Bool.{both_ways, cases_Bool, cond-true, cond-false, eq-eqb, eqb-true, or_cases, or_left, or_right}
@@ -15,18 +15,14 @@ use Rattle.xn_model.specs.Orders.{IsEdgeList, IsOrders, crossings_of}
 use Rattle.xn_model.specs.Web.{crossing_node, crossing_number_in, segments_of, segments_through, web_of}
 use Rattle.xn_graph.specs.Limits.{IsLimitedGraph, IsLimitedWeb}
 use Rattle.xn_graph.proofs.Ends.{EndsIn-at}
+use Rattle.xn_model.proofs.Has.{all_of}
+use Rattle.xn_model.proofs.Darts.{EndsIn-both}
+use Rattle.xn_graph.proofs.Pairs.{length-each_two}
 use Rattle.xn_orders.specs.Crossed.{crosses_in}
 use Rattle.xn_orders.specs.Pairs.{has_pair}
-use Rattle.xn_orders.proofs.CrossingLists.{each_at}
 use Rattle.xn_orders.proofs.Numbered.{crosses_in-entry}
 
 -- ---- how many crossings and segments there are
-
-length-each_two : (es : List ℕ) → 2 * length (each_two es) + length es ≡ length es * length es
-length-each_two [] = refl
-length-each_two (e ∷ es) =
-    let pair : ℕ → ℕ × ℕ = λ f. (e, f) in
-    omega (arith, length-each_two es, length-append (map pair es) (each_two es), length-map es pair)
 
 pub edges_few : (count : ℕ) (edges : List ℕ) → IsEdgeList count edges → length edges ≤ count
 edges_few count edges list = length-le_from_below count edges (sorted_from_strictly_increasing edges list.rise) list.below
@@ -77,10 +73,6 @@ node_below nodes pairs e f crosses = elim (cases_Bool (ltb e f)) [
       rw above (omega (arith, number))
 ]
 
-EndsIn-append : (n : ℕ) (ps qs : List (ℕ × ℕ)) → EndsIn n ps → EndsIn n qs → EndsIn n (ps ++ qs)
-EndsIn-append n [] qs first second = second
-EndsIn-append n (p ∷ ps) qs first second = (first.0, first.1, EndsIn-append n ps qs first.2 second)
-
 EndsIn-through : (n u : ℕ) (ws : List ℕ) (v : ℕ) → u < n → AllByRecursion (λ w. w < n) ws → v < n → EndsIn n (segments_through u ws v)
 EndsIn-through n u [] v u_in ws_in v_in = (u_in, v_in, tt)
 EndsIn-through n u (w ∷ ws) v u_in ws_in v_in = (u_in, ws_in.0, EndsIn-through n w ws v ws_in.0 ws_in.1 v_in)
@@ -103,7 +95,7 @@ module _ (g : Graph) (edges : List ℕ) (ord : ℕ → List ℕ) (is_graph : IsG
       let second : (ends_at g.ends e).1 < n = omega (arith, ends.1) in
       let between = nodes_below n g.nodes pairs e (ord e) (omega arith) (crosses_in-entry g.ends edges ord orders e) in
       let through = EndsIn-through n (ends_at g.ends e).0 (map (crossing_node g.nodes pairs e) (ord e)) (ends_at g.ends e).1 first between second in
-      EndsIn-append n (segments_of g pairs ord e) (flat_map (segments_of g pairs ord) es) through (ends_of es below.1)
+      EndsIn-both n (segments_of g pairs ord e) (flat_map (segments_of g pairs ord) es) through (ends_of es below.1)
 
   -- the ends of the segments are nodes of the web
   pub web_ends : EndsIn (web_of g edges ord).nodes (web_of g edges ord).ends
@@ -112,7 +104,7 @@ module _ (g : Graph) (edges : List ℕ) (ord : ℕ → List ℕ) (is_graph : IsG
 module _ (g : Graph) (edges : List ℕ) (ord : ℕ → List ℕ) (limited : IsLimitedGraph g) (orders : IsOrders g.ends edges ord) where
   crosser_below : (e f : ℕ) → has (ord e) f ≡ true → f < length g.ends
   crosser_below e f crosses =
-      each_at (λ x. x < length g.ends) edges (recursion_from_All (λ x. x < length g.ends) edges orders.edge_list.below) f (orders.within f e (orders.both_ways e f crosses))
+      all_of (λ x. x < length g.ends) edges (recursion_from_All (λ x. x < length g.ends) edges orders.edge_list.below) f (orders.within f e (orders.both_ways e f crosses))
 
   -- an edge has at most as many crossers as there are edges
   pub crossers_few : (e : ℕ) → length (ord e) ≤ length g.ends

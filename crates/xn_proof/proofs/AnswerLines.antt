@@ -19,13 +19,14 @@ use Rattle.xn_proof.specs.declared.item.Item.TheVariants as item
 use Rattle.xn_proof.specs.declared.places.Block.{Block}
 use Rattle.xn_proof.specs.declared.places.Place.{Place}
 use Rattle.xn_proof.specs.declared.places.Place.TheVariants as place
-use Rattle.xn_proof.specs.Forms.{Line, bounds_items, drawing_items, evidence_items, graph_items, items_of, lines_at, node_item, overs_from, paths_from, row_items, rows_from, rows_items, start_item, start_paths, start_state, text_lines, tree_items, up_to_end}
+use Rattle.xn_proof.specs.Forms.{Line, LinesSayItsItems, bounds_items, drawing_items, evidence_items, graph_items, items_of, lines_at, node_item, overs_from, paths_from, row_items, rows_from, rows_items, start_item, start_paths, start_state, text_lines, tree_items, up_to_end}
 use Rattle.xn_proof.specs.Fronts.{front_at}
 use Rattle.xn_proof.specs.Proofs.{after_node, answer_of, evidence_at, node_of, nodes_at, nothing_at, over_at, overs_at, path_at, paths_of, proof_at, row_at, start_of}
 use Rattle.xn_proof.specs.Ranges.{list_form, no_form, one_form, over_form}
 use Rattle.xn_proof.specs.Reading.{◌>>=◌, Left, form_at, line_at, many_at, trailing}
 use Rattle.xn_proof.specs.Spelling.{overs_of}
 use Rattle.xn_proof.proofs.FrontLines.{front_items, front_says, three, two}
+use Rattle.xn_proof.proofs.AnyNumber.{lines_any, said_any}
 use Rattle.xn_proof.proofs.LineByLine.{Says, chain, ended, form_says, from, line_says, many_length, many_lines_say, many_says, numbers_agree, said, unended}
 use Rattle.xn_proof.proofs.Nodes.{line_shortens, no_line}
 use Rattle.xn_proof.proofs.Steps.{bind_ok, ok_is}
@@ -256,3 +257,11 @@ pub lines_say_the_answer : (text : List ℕ) → length (text_lines text) < 2 ^ 
 lines_say_the_answer text few =
     let lines = lines_of (1, text) in
     numbers_agree 1 place.Header lines (omega (arith, few, length-map lines)) ∙ answer_says text
+
+-- they say the same, however many they are
+pub lines_say_its_items : LinesSayItsItems
+lines_say_its_items text items =
+    let lines = lines_of (1, text) in (
+      λ e. sym (answer_says text) ∙ lines_any lines place.Header 1 1 items e,
+      λ e. said_any lines place.Header 1 1 items (answer_says text ∙ e),
+    )

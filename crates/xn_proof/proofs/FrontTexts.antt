@@ -210,9 +210,6 @@ is_even (a ∷ b ∷ next) (suc k) long all =
       small = all_cons (BothAtMost most_32) (a, b) (turns_of next) (omega (arith, first), omega (arith, second)) rest.small;
     }
 
-drawing_spelled : List (List ℕ) → List (ℕ × ℕ) → List ℕ
-drawing_spelled lists turns = each along_line lists ++ each turn_line turns
-
 drawing_takes : (m : ℕ) (s : Left) (d : Drawing) (after : Left) → drawing_at m s ≡ Ok (d, after) → (s.1 ≡ (each along_line d.orders ++ each turn_line (turns_of d.next)) ++ after.1) × IsDrawingText m d
 unfolding drawing_at
 drawing_takes m s d after e =

@@ -8,6 +8,7 @@ use Rattle.std.proofs.Math.Nat.{min-eq_left}
 use Rattle.std.specs.List.{after_first, before_first, flat_map, position_or_len, slice_split}
 use Rattle.xn_kinds.specs.declared.flaws.Flaw.{Flaw}
 use Rattle.xn_text.specs.Pieces.{is_line_end, lines_of, numbered_lines, unended_line, words_of}
+use Rattle.xn_text.proofs.Split.{ended_line}
 use Rattle.xn_proof.specs.declared.item.Item.{Item}
 use Rattle.xn_proof.specs.declared.places.Place.{Place}
 use Rattle.xn_proof.specs.Forms.{Reached, is_end, lines_at, rule_at, up_to_end, words_at}
@@ -36,10 +37,6 @@ abbrev pub Says : {X : Type 0} → Place → (Left → Result (X × Left) Flaw) 
 Says p read next say = (front : List Item) (s : Left) → from front s p ≡ (read s >>= λ x. from (front ++ say x.0) x.1 (next x.0))
 
 -- ---- one line
-
-ended_line : (number : ℕ) (piece : List ℕ) (others : List (List ℕ)) → 0 < length others → numbered_lines number (piece ∷ others) ≡ (number, piece, true) ∷ numbered_lines (number + 1) others
-ended_line number piece [] some = absurd (omega arith)
-ended_line number piece (second ∷ others) some = refl
 
 pub ended : (i : ℕ) (text : List ℕ) → ltb (position_or_len is_line_end text) (length text) ≡ true → lines_of (i, text) ≡ (i, before_first is_line_end text, true) ∷ lines_of (i + 1, after_first is_line_end text)
 ended i text is =
@@ -160,10 +157,6 @@ pub fold_counts : {X : Type 0} (j : ℕ) (xs : List X) → fold_on (λ n x. n + 
 fold_counts j [] = omega arith
 fold_counts j (x ∷ xs) = omega (arith, fold_counts (j + 1) xs)
 
-pub fold_same : {X : Type 0} (t : ℕ) (xs : List X) → fold_on (λ n x. n) t xs ≡ t
-fold_same t [] = refl
-fold_same t (x ∷ xs) = fold_same t xs
-
 pub many_length : {X : Type 0} (item : ℕ → Left → Result (X × Left) Flaw) (j k : ℕ) (s : Left) (xs : List X) (t : Left) → many_at item j k s ≡ Ok (xs, t) → length xs ≡ k
 unfolding many_at
 many_length {X = X} item j zero s xs t is = sym (ap (λ (p : List X × Left). length p.0) (ok_is ([], s) (xs, t) is))
@@ -199,7 +192,7 @@ kept_by : (x : Item) (o : List Item × Reached) (b : Bool) → cond b (Ok (x ∷
 kept_by x o true = refl
 kept_by x o false = refl
 
-kept : (x : Item) (read : Result (List Item × Reached) Flaw) → up_to_end (read >>= then_items x) ≡ (up_to_end read >>= λ items. Ok (x ∷ items))
+pub kept : (x : Item) (read : Result (List Item × Reached) Flaw) → up_to_end (read >>= then_items x) ≡ (up_to_end read >>= λ items. Ok (x ∷ items))
 kept x (Ok o) = kept_by x o (is_end o.1.1)
 kept x (Err e) = refl
 

@@ -166,9 +166,6 @@ evidence_again i ev rest fits =
     let paths = paths_again ev (i + 1) rest fits in
     (paths.0, rw (regroup_two (line (evidence_key ev) (evidence_numbers ev)) paths_text rest, first.taken, words, start_again i st b.fits) paths.1)
 
-pub evidence_item : IsItem evidence_at evidence_text IsEvidenceText
-evidence_item = record { takes = evidence_takes; again = evidence_again }
-
 -- ---- rows
 
 over_item : (j : ℕ) → IsItem (over_at j) over_line IsOver

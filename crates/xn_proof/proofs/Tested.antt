@@ -6,7 +6,7 @@ use Rattle.xn_text.specs.declared.numbers.WordNumber.{WordNumber}
 use Rattle.xn_text.specs.declared.numbers.WordNumber.TheVariants.{Not, Large, Is}
 use Rattle.xn_proof.specs.declared.flaw.AnswerErr.{AnswerErr}
 use Rattle.xn_proof.specs.declared.flaw.AnswerErr.TheVariants as errors
-use Rattle.xn_proof.specs.Ranges.{at_most, below, factor, large_of, pairs_of, parts_at, small_of}
+use Rattle.xn_proof.specs.Ranges.{at_most, below, factor, large_of, parts_of, parts_at, small_of}
 use Rattle.xn_proof.specs.Reading.{Fails, each_at, spelled, syntax, value_of}
 use Rattle.xn_proof.proofs.Values.{at_most_is, below_is, factor_is}
 
@@ -51,7 +51,7 @@ small_is i v n e =
 -- ---- two by two
 
 pub parts_lead : (rows i : ℕ) (left : List (Option ℕ)) (v w : Option ℕ) (rest all : List (Option ℕ)) (row multiplier : ℕ) → rows ≤ 2 ^ 32 → left ≡ v ∷ w ∷ rest → below i rows v ≡ Ok row → factor i w ≡ Ok multiplier
-    → Leads (parts_at rows i) pairs_of left all → Leads (parts_at rows i) pairs_of rest all
+    → Leads (parts_at rows i) parts_of left all → Leads (parts_at rows i) parts_of rest all
 unfolding parts_at
 parts_lead rows i left v w rest all row multiplier few is first second leads =
     let row_is = below_is i rows v row first in
@@ -65,21 +65,21 @@ parts_lead rows i left v w rest all row multiplier few is first second leads =
     (λ h. leads.0 (rw (is, front, back, h) refl), λ e h. leads.1 e (rw (is, front, back, h) refl))
 
 pub parts_fail_first : (rows i : ℕ) (e : AnswerErr) (left : List (Option ℕ)) (v w : Option ℕ) (rest all : List (Option ℕ)) → left ≡ v ∷ w ∷ rest → Fails e (below i rows v)
-    → Leads (parts_at rows i) pairs_of left all → Fails e (parts_at rows i all)
+    → Leads (parts_at rows i) parts_of left all → Fails e (parts_at rows i all)
 unfolding parts_at
 parts_fail_first rows i errors.Memory left v w rest all is failed leads = tt
 parts_fail_first rows i (errors.Refused flaw) left v w rest all is failed leads = leads.1 flaw (rw (is, failed) refl)
 
 pub parts_fail_second : (rows i : ℕ) (e : AnswerErr) (left : List (Option ℕ)) (v w : Option ℕ) (rest all : List (Option ℕ)) (row : ℕ) → left ≡ v ∷ w ∷ rest → below i rows v ≡ Ok row → Fails e (factor i w)
-    → Leads (parts_at rows i) pairs_of left all → Fails e (parts_at rows i all)
+    → Leads (parts_at rows i) parts_of left all → Fails e (parts_at rows i all)
 unfolding parts_at
 parts_fail_second rows i errors.Memory left v w rest all row is first failed leads = tt
 parts_fail_second rows i (errors.Refused flaw) left v w rest all row is first failed leads = leads.1 flaw (rw (is, first, failed) refl)
 
-pub parts_odd : (rows i : ℕ) (left : List (Option ℕ)) (v : Option ℕ) (all : List (Option ℕ)) → left ≡ v ∷ [] → Leads (parts_at rows i) pairs_of left all → parts_at rows i all ≡ Err (syntax i)
+pub parts_odd : (rows i : ℕ) (left : List (Option ℕ)) (v : Option ℕ) (all : List (Option ℕ)) → left ≡ v ∷ [] → Leads (parts_at rows i) parts_of left all → parts_at rows i all ≡ Err (syntax i)
 unfolding parts_at
 parts_odd rows i left v all is leads = leads.1 (syntax i) (rw is refl)
 
-pub parts_end : (rows i : ℕ) (left all : List (Option ℕ)) → left ≡ [] → Leads (parts_at rows i) pairs_of left all → parts_at rows i all ≡ Ok (pairs_of all)
+pub parts_end : (rows i : ℕ) (left all : List (Option ℕ)) → left ≡ [] → Leads (parts_at rows i) parts_of left all → parts_at rows i all ≡ Ok (parts_of all)
 unfolding parts_at
 parts_end rows i left all is leads = leads.0 (rw is refl)

@@ -1,8 +1,6 @@
 -- The turns one after the other, as a loop lists them.
-use Rattle.std.proofs.Common.{◌≡◌, ℕ, suc, ◌+◌, ◌<◌, ◌≤◌, List, [], ◌∷◌, ◌++◌, length, drop, get_or, sym, ap, add-one, ◌∙◌, append_assoc}
-use Rattle.std.proofs.lemmas.List.{append-nil}
+use Rattle.std.proofs.Common.{◌≡◌, ℕ, suc, ◌+◌, ◌<◌, List, [], ◌∷◌, ◌++◌, length, drop, get_or, sym, ap, add-one, ◌∙◌, append_assoc}
 use Rattle.std.proofs.Math.Seq.{drop-cons}
-use Rattle.std.proofs.Math.ListN.{drop_of_length-le}
 use Rattle.xn_proof.specs.Fronts.{next_of}
 
 -- what is listed, and what the turns from i on still give
@@ -17,8 +15,3 @@ one_more front turns i total low so_far =
     let rest : List ℕ = next_of (drop (suc i) turns) in
     let one : front ++ (t.0 ∷ t.1 ∷ rest) ≡ total = ap (λ (l : List (ℕ × ℕ)). front ++ next_of l) (sym k) ∙ so_far in
     rw (add-one i) (append_assoc (front ++ t.0 ∷ []) (t.1 ∷ []) rest ∙ append_assoc front (t.0 ∷ []) (t.1 ∷ rest) ∙ one)
-
-pub all_listed : (front : List ℕ) (turns : List (ℕ × ℕ)) (i : ℕ) (total : List ℕ) → length turns ≤ i → listed_from front turns i ≡ total → front ≡ total
-all_listed front turns i total past so_far =
-    let none : drop i turns ≡ [] = drop_of_length-le turns past in
-    sym (append-nil front) ∙ ap (λ (l : List (ℕ × ℕ)). front ++ next_of l) (sym none) ∙ so_far

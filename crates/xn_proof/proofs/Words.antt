@@ -1,12 +1,11 @@
 -- The words that are left of a line.
-use Rattle.std.proofs.Common.{◌≡◌, ℕ, zero, suc, ◌+◌, ◌-◌, ◌≤◌, ◌<◌, true, false, List, [], ◌∷◌, Ok, Err, length, take, refl, ap, ◌∙◌, arith}
-use Rattle.std.proofs.lemmas.List.{length-map, length-take-le}
+use Rattle.std.proofs.Common.{◌≡◌, ℕ, zero, suc, ◌+◌, ◌-◌, ◌≤◌, ◌<◌, true, List, [], ◌∷◌, Ok, length, take, refl, ap, arith}
 use Rattle.std.proofs.lemmas.List.Splits.{length-slice_split}
 use Rattle.std.proofs.lemmas.List.Sums.{count_by-le-length}
 use Rattle.std.specs.Prelude.{◌==◌}
 use Rattle.std.specs.Str.{bytes_eq}
 use Rattle.xn_text.specs.Pieces.{words_of}
-use Rattle.xn_proof.specs.Reading.{each_at, has_key, keyed, number_of, syntax, value_at, values_of}
+use Rattle.xn_proof.specs.Reading.{each_at, has_key, keyed, number_of, value_at, values_of}
 
 -- the first of so many words, with others behind it
 pub first_value : (words : List (List ℕ)) (left : ℕ) (word : List ℕ) (others : List (List ℕ)) → 0 < left → words ≡ word ∷ others → values_of (take left words) ≡ number_of word ∷ values_of (take (left - 1) others)
@@ -23,9 +22,6 @@ last_value words left word some within is =
     let one : left ≡ 1 = omega (arith, within, long) in
     rw (one, is) refl
 
-pub length-values_of : (words : List (List ℕ)) (left : ℕ) → left ≤ length words → length (values_of (take left words)) ≡ left
-length-values_of words left within = length-map (take left words) number_of ∙ length-take-le left words within
-
 -- a line has at most one word more than bytes
 pub few_words : (line : List ℕ) → length (words_of line) ≤ length line + 1
 few_words line = omega (arith, length-slice_split (λ (b : ℕ). b == 32) line, count_by-le-length (λ (b : ℕ). b == 32) line)
@@ -34,11 +30,6 @@ few_words line = omega (arith, length-slice_split (λ (b : ℕ). b == 32) line, 
 pub keyed_behind : (key : List ℕ) (i : ℕ) (words : List (List ℕ)) (word : List ℕ) (others : List (List ℕ)) → has_key key words ≡ true → words ≡ word ∷ others → keyed key i words ≡ each_at (value_at i) others
 unfolding keyed
 keyed_behind key i words word others has is = let test : bytes_eq word key ≡ true = rw is at has in rw (is, test) refl
-
-pub keyed_lacks : (key : List ℕ) (i : ℕ) (words : List (List ℕ)) → has_key key words ≡ false → keyed key i words ≡ Err (syntax i)
-unfolding keyed
-keyed_lacks key i [] lacks = refl
-keyed_lacks key i (word ∷ words) lacks = rw lacks refl
 
 -- the key alone
 pub keyed_alone : (key : List ℕ) (i : ℕ) (words : List (List ℕ)) (word : List ℕ) → has_key key words ≡ true → words ≡ word ∷ [] → keyed key i words ≡ Ok []

@@ -1,5 +1,5 @@
 -- Lines taken one by one: which line may stand at a place, what it says, and which place comes after it.
-use Rattle.std.specs.Prelude.{◌≡◌, ℕ, zero, suc, ◌+◌, ◌-◌, ◌*◌, ◌^◌, ◌<◌, ◌≤◌, Bool, true, false, List, [], ◌∷◌, ◌++◌, length, map, min, Option, Some, None, Result, Ok, Err, if◌then◌else◌, codes}
+use Rattle.std.specs.Prelude.{◌≡◌, ◌↔◌, ℕ, zero, suc, ◌+◌, ◌-◌, ◌*◌, ◌^◌, ◌<◌, ◌≤◌, Bool, true, false, List, [], ◌∷◌, ◌++◌, length, map, min, Option, Some, None, Result, Ok, Err, if◌then◌else◌, codes}
 use Rattle.std.specs.List.{flat_map}
 use Rattle.xn_kinds.specs.declared.answers.Answer.{Answer}
 use Rattle.xn_kinds.specs.declared.drawings.Drawing.{Drawing}
@@ -26,33 +26,33 @@ use Rattle.xn_proof.specs.declared.places.Place.TheVariants as place
 -- ---- the place of the next line, where so many of a kind are left
 
 -- the place behind them, or that of one which so many follow
-abbrev pub place_of : Place → (ℕ → Place) → ℕ → Place
-place_of behind one zero = behind
-place_of behind one (suc more) = one more
+abbrev pub next_place : Place → (ℕ → Place) → ℕ → Place
+next_place behind one zero = behind
+next_place behind one (suc more) = one more
 
 -- edges from e on
 abbrev pub edges_from : ℕ → ℕ → ℕ → Place
-edges_from nodes e count = place_of (place.Bounds e) (λ more. place.Edge nodes e more) count
+edges_from nodes e count = next_place (place.Bounds e) (λ more. place.Edge nodes e more) count
 
 -- so many turns, of m edges
 abbrev pub turns_from : ℕ → ℕ → Place
-turns_from m count = place_of (place.Drawn m) (λ more. place.Turn m more) count
+turns_from m count = next_place (place.Drawn m) (λ more. place.Turn m more) count
 
 -- so many order lists, where the edges and the entries so far make so many segments
 abbrev pub alongs_from : ℕ → ℕ → ℕ → Place
-alongs_from m segments count = place_of (turns_from m segments) (λ more. place.Along m segments more) count
+alongs_from m segments count = next_place (turns_from m segments) (λ more. place.Along m segments more) count
 
 -- so many of the rows
 abbrev pub rows_from : ℕ → ℕ → ℕ → Place
-rows_from m rows count = place_of (place.Tree m rows) (λ more. place.Row (record { edges = m; rows = rows; more = more })) count
+rows_from m rows count = next_place (place.Tree m rows) (λ more. place.Row (record { edges = m; rows = rows; more = more })) count
 
 -- so many edges of a row
 abbrev pub overs_from : Block → ℕ → Place
-overs_from b count = place_of (place.Evidence b) (λ more. place.Over b more) count
+overs_from b count = next_place (place.Evidence b) (λ more. place.Over b more) count
 
 -- so many paths of an evidence
 abbrev pub paths_from : Block → ℕ → Place
-paths_from b count = place_of (rows_from b.edges b.rows b.more) (λ more. place.Path b more) count
+paths_from b count = next_place (rows_from b.edges b.rows b.more) (λ more. place.Path b more) count
 
 -- ---- the rule of a line
 
@@ -216,3 +216,9 @@ abbrev pub LinesSayTheAnswer : Type 0
 LinesSayTheAnswer =
     (text : List ℕ) → length (text_lines text) < 2 ^ 64 - 1 →
     up_to_end (lines_at start_state (text_lines text)) ≡ (answer_of text >>= λ a. Ok (items_of a))
+
+-- they come to the end with just the items of the text's answer, however many they are
+abbrev pub LinesSayItsItems : Type 0
+LinesSayItsItems =
+    (text : List ℕ) (items : List Item) →
+    (up_to_end (lines_at start_state (text_lines text)) ≡ Ok items) ↔ ((answer_of text >>= λ a. Ok (items_of a)) ≡ Ok items)

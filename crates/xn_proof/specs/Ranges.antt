@@ -133,7 +133,9 @@ unfoldable pub leaf_form : ℕ → ℕ → List (Option ℕ) → Result (ℕ × 
 leaf_form rows i vs = do
   v ← first_of i vs
   w ← first_of i v.1
-  if is_half w.0 (length w.1) then (at_most i (2 ^ 32 - 1) w.0 >>= λ count. factor i v.0 >>= λ divisor. parts_at rows i w.1 >>= λ parts. Ok (divisor, parts)) else Err (syntax i)
+  if is_half w.0 (length w.1)
+      then (at_most i (2 ^ 32 - 1) w.0 >>= λ count. factor i v.0 >>= λ divisor. parts_at rows i w.1 >>= λ parts. Ok (divisor, parts))
+      else Err (syntax i)
 
 -- ---- what is kept of values, where each is in its range
 
@@ -147,7 +149,7 @@ large_of (Some n) = n
 large_of None = 0
 
 -- row numbers, each with its multiplier
-abbrev pub pairs_of : List (Option ℕ) → List (ℕ × ℕ)
-pairs_of [] = []
-pairs_of (v ∷ []) = []
-pairs_of (v ∷ w ∷ vs) = (small_of v, large_of w) ∷ pairs_of vs
+abbrev pub parts_of : List (Option ℕ) → List (ℕ × ℕ)
+parts_of [] = []
+parts_of (v ∷ []) = []
+parts_of (v ∷ w ∷ vs) = (small_of v, large_of w) ∷ parts_of vs

@@ -1,5 +1,5 @@
 // The whole text of an answer.
-ghost use Rattle.std.specs.Prelude.{◌≡◌, ◌≤◌, IfOk, codes};
+ghost use Rattle.std.specs.Prelude.{◌≤◌, IfOk, codes};
 ghost use Rattle.xn_proof.specs.Proofs.{answer_of, nothing_at, proof_at};
 ghost use Rattle.xn_proof.specs.Ranges.{no_form, one_form};
 ghost use Rattle.xn_proof.specs.Reading.{Gives, Reads, form_at};

@@ -1,5 +1,5 @@
 // The rows.
-ghost use Rattle.std.specs.Prelude.{◌≡◌, ◌≤◌, IfOk, codes};
+ghost use Rattle.std.specs.Prelude.{◌≤◌, IfOk, codes};
 ghost use Rattle.xn_list.specs.Lists.{lists_of};
 ghost use Rattle.xn_proof.specs.Proofs.{over_at, overs_at, row_at};
 ghost use Rattle.xn_proof.specs.Ranges.{one_form, over_form};

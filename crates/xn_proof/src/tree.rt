@@ -2,7 +2,7 @@
 ghost use Rattle.std.specs.Prelude.{◌≡◌, IfOk, length};
 ghost use Rattle.xn_text.specs.Pieces.{words_of};
 ghost use Rattle.xn_proof.specs.Proofs.{node_of, nodes_at};
-ghost use Rattle.xn_proof.specs.Ranges.{edges_form, is_half, leaf_form, pairs_of, parts_at};
+ghost use Rattle.xn_proof.specs.Ranges.{edges_form, is_half, leaf_form, parts_of, parts_at};
 ghost use Rattle.xn_proof.specs.Reading.{Gives, Reads};
 
 use crate::flaw::{AnswerErr, syntax};
@@ -26,7 +26,7 @@ fn two_edges(edges: u32, number: u64, values: &Numbers) -> Result<(u32, u32), An
 
 // Tests that they are row numbers, each with its multiplier.
 fn all_parts(rows: u32, number: u64, values: &Numbers) -> Result<(), AnswerErr>
-    ensures { Gives (λ u. pairs_of values.now) result (parts_at rows number values.now) }
+    ensures { Gives (λ u. parts_of values.now) result (parts_at rows number values.now) }
 {
     let mut rest = values.again();
     while let Some(row) = rest.next() {
@@ -41,7 +41,7 @@ fn all_parts(rows: u32, number: u64, values: &Numbers) -> Result<(), AnswerErr>
 
 // Those of 32 and 64 bits in turn, with 0 for each other.
 fn keep_parts(alloc: Global, values: &Numbers) -> Result<Vec<(u32, u64)>, AllocError>
-    ensures { IfOk result (λ parts. parts.items ≡ pairs_of values.now) }
+    ensures { IfOk result (λ parts. parts.items ≡ parts_of values.now) }
 {
     let mut parts = Vec::with_capacity(alloc, values.len() / 2)?;
     let mut rest = values.again();

@@ -3,8 +3,10 @@ use Rattle.std.proofs.Common.{◌≡◌, ℕ, zero, suc, ◌+◌, ◌<◌, inl, 
 use Rattle.std.specs.List.{list_any}
 use Rattle.std.proofs.lemmas.Bool.{both_ways, or_cases, or_left, or_right}
 use Rattle.xn_model.specs.Permutation.{Permutes, Reaches, count_below, cycle_count, is_least, iterate, walk}
-use Rattle.xn_ring.proofs.Counting.{count-parts, count-same, same_tests}
-use Rattle.xn_ring.proofs.Orbits.{iterate-step, iterate_below, within}
+use Rattle.xn_model.proofs.Tests.{same_tests}
+use Rattle.xn_model.proofs.Decide.{iterate-step}
+use Rattle.xn_ring.proofs.Counting.{count-parts, count-same}
+use Rattle.xn_ring.proofs.Orbits.{iterate_below, within}
 use Rattle.xn_ring.specs.Parts.{cycle_count_with}
 
 -- a test of the first k numbers of a walk

@@ -4,12 +4,8 @@ use Rattle.std.specs.List.{list_all, list_any, IsDistinct, AllByRecursion}
 use Rattle.std.proofs.lemmas.Bool.{and_parts, and_from, leb-true, le-leb, ltb-true, ltb-false, eqb-true, eqb-false, ne_eqb, cases_eq, cases_Bool, or_cases, both_ways}
 use Rattle.std.proofs.lemmas.Map.Steps.{length-le_from_distinct_below}
 use Rattle.xn_model.specs.Permutation.{Permutes, iterate, walk, is_least, Reaches}
+pub use Rattle.xn_model.proofs.Decide.{iterate-step}
 use Rattle.xn_ring.specs.Walks.{IsLeastOf}
-
--- one step first, or one step last
-pub iterate-step : (f : ℕ → ℕ) (k d : ℕ) → iterate f k (f d) ≡ f (iterate f k d)
-iterate-step f zero d = refl
-iterate-step f (suc k) d = ap f (iterate-step f k d)
 
 -- j steps after k steps
 pub iterate-add : (f : ℕ → ℕ) (j k d : ℕ) → iterate f (j + k) d ≡ iterate f j (iterate f k d)

@@ -2,7 +2,8 @@
 use Rattle.std.proofs.Common.{◌≡◌, ℕ, zero, suc, ◌<◌, inl, inr, true, cond, eqb, refl, sym, ◌∙◌, ap, subst, arith}
 use Rattle.std.proofs.lemmas.Bool.{cases_eq, cond-false, cond-true, eq-eqb, ne_eqb}
 use Rattle.xn_model.specs.Permutation.{Permutes, Reaches, cycle_count, is_least, iterate}
-use Rattle.xn_ring.proofs.Counting.{count-same, same_tests}
+use Rattle.xn_model.proofs.Tests.{same_tests}
+use Rattle.xn_ring.proofs.Counting.{count-same}
 use Rattle.xn_ring.proofs.Marked.{cycle_count_with-all}
 use Rattle.xn_ring.proofs.Orbits.{IsLeast-from_test, reaches_back, reaches_trans, source_of, test-from_IsLeast}
 use Rattle.xn_ring.proofs.Restriction.{has_cycles_of}

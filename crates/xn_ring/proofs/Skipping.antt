@@ -3,14 +3,11 @@ use Rattle.std.proofs.Common.{◌≡◌, ◌≢◌, ℕ, suc, ◌+◌, ◌-◌, 
 use Rattle.std.proofs.lemmas.Bool.{cases_eq, cases_lt, eq-eqb, eqb-true, ne_eqb, or_cases, both_ways}
 use Rattle.xn_model.specs.Lists.{has}
 use Rattle.xn_model.specs.Permutation.{Permutes, iterate, without}
+use Rattle.xn_model.proofs.Tests.{neither, not_true}
 use Rattle.xn_ring.proofs.Agreeing.{Permutes-agrees}
 use Rattle.xn_ring.proofs.Orbits.{iterate-add}
 use Rattle.xn_ring.proofs.Without.{Permutes-without, without-at, without-before, without-other}
 use Rattle.xn_ring.specs.Removals.{IsAllTakenOut, IsNextKept, without_all}
-
-none_of : (x y : Bool) → (x || y) ≡ false → (x ≡ false) × (y ≡ false)
-none_of false y none = (refl, none)
-none_of true y none = absurd (both_ways true none refl)
 
 listed : (x y : Bool) → x ≡ true → not (x || y) ≡ false
 listed true y here = refl
@@ -23,10 +20,6 @@ listed_later false y later = later
 kept_by_both : (x y : Bool) → x ≡ false → not y ≡ true → not (x || y) ≡ true
 kept_by_both false y one two = two
 kept_by_both true y one two = absurd (both_ways true one refl)
-
-not_listed : (y : Bool) → not y ≡ true → y ≡ false
-not_listed false kept = refl
-not_listed true kept = absurd (both_ways false refl kept)
 
 module _ (n : ℕ) (f : ℕ → ℕ) (permutes : Permutes n f) where
   pub Permutes-without_all : (xs : List ℕ) → Permutes n (without_all xs f)
@@ -61,7 +54,7 @@ module _ (n : ℕ) (f : ℕ → ℕ) (permutes : Permutes n f) where
   next_kept (x ∷ xs) d d_in free =
       let g = without_all xs f in
       let g_permutes = Permutes-without_all xs in
-      let frees = none_of (eqb x d) (has xs d) free in
+      let frees = neither (eqb x d) (has xs d) free in
       let d_other : d ≢ x = λ e. both_ways (eqb x d) frees.0 (eq-eqb x d (sym e)) in
       let one = next_kept xs d d_in frees.1 in
       elim (cases_eq (g d) x) [
@@ -75,7 +68,7 @@ module _ (n : ℕ) (f : ℕ → ℕ) (permutes : Permutes n f) where
             }
         | inl meets ↦
             let x_in : x < n = omega (arith, g_permutes.below d d_in, meets) in
-            let x_free : has xs x ≡ false = ap (has xs) (sym meets) ∙ not_listed (has xs (g d)) one.kept in
+            let x_free : has xs x ≡ false = ap (has xs) (sym meets) ∙ not_true (has xs (g d)) one.kept in
             let two = next_kept xs x x_in x_free in
             let same : without x g d ≡ g x = without-before x g d d_other meets in
             let not_x : g x ≢ x = λ e. d_other (g_permutes.apart d x d_in x_in (meets ∙ sym e)) in

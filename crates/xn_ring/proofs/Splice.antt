@@ -3,8 +3,9 @@ use Rattle.std.proofs.Common.{◌≡◌, ◌≢◌, ℕ, zero, suc, ◌+◌, ◌
 use Rattle.std.proofs.lemmas.Bool.{eqb-true, eqb-false, cases_eq, cases_order, false_from_ne_true}
 use Rattle.xn_model.specs.Lists.{at}
 use Rattle.xn_model.specs.Permutation.{Permutes, iterate, is_least, cycle_count, Reaches, IsSplice}
+use Rattle.xn_model.proofs.Tests.{same_tests}
 use Rattle.xn_ring.proofs.Orbits.{iterate-add, iterate_below, comes_back, first_below, reaches_back, reaches_trans, reaches_step, reaches_below, IsLeast, IsLeast-from_test, test-from_IsLeast, least_of, least_unique}
-use Rattle.xn_ring.proofs.Counting.{count-differs, same_tests}
+use Rattle.xn_ring.proofs.Counting.{count-differs}
 use Rattle.xn_ring.proofs.Inverse.{at-swap}
 use Rattle.xn_ring.specs.Swaps.{JoinsCycles}
 

@@ -1,5 +1,5 @@
 -- An evidence holds, or has a flaw: each test of it has an end.
-use Rattle.std.proofs.Common.{◌≡◌, ℕ, ◌<◌, ◌⊎◌, inl, inr, Bool, true, false, not, ◌||◌, eqb, get_or, List, [], ◌∷◌, ◌++◌, length, append_assoc, refl, sym, ◌∙◌, subst, arith}
+use Rattle.std.proofs.Common.{◌≡◌, ℕ, ◌<◌, ◌⊎◌, inl, inr, Bool, true, false, not, ◌||◌, eqb, get_or, List, [], ◌∷◌, ◌++◌, length, append_assoc, refl, sym, subst, arith}
 use Rattle.std.specs.Prelude.{All, nat_eq, slice_index}
 use Rattle.std.specs.List.{AllByRecursion, IsDistinct, concat}
 use Rattle.std.proofs.lemmas.Bool.{both_ways, cases_Bool, cases_eq, cases_lt, false_from_ne_true, ltb-true}
@@ -14,7 +14,7 @@ use Rattle.xn_orders.proofs.First.{Decided, first_so}
 use Rattle.xn_extend.specs.ListFlaw.{IsListFlaw, IsMisfit, share_node}
 use Rattle.xn_extend.proofs.Listing.{grows_from_fit}
 use Rattle.xn_kura.specs.Flaws.{AreBranches, IsBroken, IsFirstEvidenceFlaw, IsFirstRepeat, LeadBefore, begins_at, goes_to, path_at, wrong_branch}
-use Rattle.xn_kura.proofs.Stages.{lead_all}
+use Rattle.xn_kura.proofs.Stages.{lead_all, same_end}
 
 decide_true : (b : Bool) → Decided (b ≡ true)
 decide_true b = elim (cases_Bool b) [ inl is ↦ inl is | inr away ↦ inr (λ is. both_ways _ away is) ]
@@ -55,10 +55,6 @@ repeats : (xs : List ℕ) → HasRepeatOrNone xs
 repeats xs = repeats_after [] xs none_distinct
 
 -- ---- walks
-
-same_end : (ends : List (ℕ × ℕ)) (u v w : ℕ) (path : List ℕ) → LeadsTo ends u path v → LeadsTo ends u path w → v ≡ w
-same_end ends u v w [] one two = sym one ∙ two
-same_end ends u v w (s ∷ path) one two = same_end ends (far_end (ends_at ends s) u) v w path one.2 two.2
 
 walk_or_broken : (ends : List (ℕ × ℕ)) (u : ℕ) (path : List ℕ) → ((v : ℕ) × LeadsTo ends u path v) ⊎ IsBroken ends u path
 walk_or_broken ends u [] = inl (u, refl)

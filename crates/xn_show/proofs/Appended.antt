@@ -3,6 +3,7 @@ use Rattle.std.proofs.Common.{◌≡◌, ℕ, zero, suc, ◌+◌, List, [], ◌�
 use Rattle.std.specs.List.{flat_map, range_with_len}
 use Rattle.std.proofs.lemmas.List.{append-nil}
 use Rattle.std.proofs.lemmas.List.Concat.{flat_map-append}
+use Rattle.xn_model.proofs.Ranges.{range-push}
 use Rattle.xn_show.specs.Darts.{dart_text}
 use Rattle.xn_show.specs.Text.{spaced}
 
@@ -18,16 +19,12 @@ last : (a n j : ℕ) → a + n ≡ j → range_with_len a (suc n) ≡ range_with
 last a zero j e = let same : a ≡ j = omega arith in ap (λ k. k ∷ []) same
 last a (suc n) j e = ap (λ l. a ∷ l) (last (a + 1) n j (omega arith))
 
--- one number more
-pub range_more : (n : ℕ) → range_with_len 0 (n + 1) ≡ range_with_len 0 n ++ n ∷ []
-range_more n = let on : n + 1 ≡ suc n = omega arith in ap (range_with_len 0) on ∙ last 0 n n (omega arith)
-
 -- what is said of one number more
 pub each_more : {X : Type 0} (f : ℕ → List X) (n : ℕ) (old mid new : List X) → mid ≡ old ++ flat_map f (range_with_len 0 n) → new ≡ mid ++ f n →
     new ≡ old ++ flat_map f (range_with_len 0 (n + 1))
 each_more f n old mid new so_far more =
     then old (flat_map f (range_with_len 0 n)) mid (f n) new so_far more
-    ∙ ap (λ t. old ++ t) (sym (ap (flat_map f) (range_more n) ∙ flat_map-append f (range_with_len 0 n) (n ∷ []) ∙ ap (λ t. flat_map f (range_with_len 0 n) ++ t) (append-nil (f n))))
+    ∙ ap (λ t. old ++ t) (sym (ap (flat_map f) (range-push n) ∙ flat_map-append f (range_with_len 0 n) (n ∷ []) ∙ ap (λ t. flat_map f (range_with_len 0 n) ++ t) (append-nil (f n))))
 
 -- one dart more
 spaced_push : (ds : List ℕ) (d : ℕ) → spaced (ds ++ d ∷ []) ≡ spaced ds ++ dart_text (length ds) d

@@ -12,8 +12,8 @@ use Rattle.xn_graph.proofs.Ends.{EndsIn-at}
 use Rattle.xn_gml.specs.declared.pair.Pair.{Pair}
 use Rattle.xn_gml.specs.declared.token.Key.TheVariants as key
 use Rattle.xn_gml.specs.Meaning.{Edges, edges_from, ids_from, new_id, nodes_of, number_of, values_of, with_block, with_edge}
+use Rattle.xn_model.proofs.Ranges.{range-push}
 use Rattle.xn_show.specs.Laws.{numbered}
-use Rattle.xn_show.proofs.Appended.{range_more}
 use Rattle.xn_show.proofs.Shapes.{EachPair, HasEnds, HasInteger}
 
 -- ---- ids
@@ -61,7 +61,7 @@ map_push (m ∷ ns) n = ap (λ (ps : List (ℤ × ℕ)). pair_of m ∷ ps) (map_
 numbered_more : (n : ℕ) → numbered n ++ (pos n, length (numbered n)) ∷ [] ≡ numbered (n + 1)
 numbered_more n =
     ap (λ (k : ℕ). numbered n ++ (pos n, k) ∷ []) (length-numbered n)
-    ∙ sym (ap (map pair_of) (range_more n) ∙ map_push (range_with_len 0 n) n)
+    ∙ sym (ap (map pair_of) (range-push n) ∙ map_push (range_with_len 0 n) n)
 
 new_id_is : (n : ℕ) (p : Pair) → HasInteger key.Id p n → number_of (numbered n) (pos n) ≡ None → new_id (numbered n) p ≡ Ok (pos n)
 unfolding new_id

@@ -1,9 +1,9 @@
 -- Spellings of numbers as runs and in strings.
-use Rattle.std.proofs.Common.{◌≡◌, ℕ, ℤ, pos, negsuc, suc, ◌^◌, ◌<◌, ◌==◌, Bool, true, false, cond, ltb, List, [], ◌∷◌, ◌++◌, length, Option, Some, None, position, decimal, FitsSigned, refl, ap, ◌∙◌, subst, arith}
+use Rattle.std.proofs.Common.{◌≡◌, ℕ, ℤ, pos, negsuc, suc, ◌^◌, ◌<◌, ◌==◌, Bool, true, false, cond, ltb, List, [], ◌∷◌, ◌++◌, length, Option, Some, None, decimal, FitsSigned, refl, ap, ◌∙◌, subst, arith}
 use Rattle.std.specs.Char.{is_ascii_digit}
 use Rattle.std.specs.Fmt.{signed_decimal}
 use Rattle.std.specs.Int.{IsInRange, w64}
-use Rattle.std.specs.List.{list_all, position_or_len, AllByRecursion}
+use Rattle.std.specs.List.{list_all, AllByRecursion}
 use Rattle.std.specs.Str.Parse.{AllDigits, digits_value}
 use Rattle.std.proofs.lemmas.Bool.{lt-ltb, le-ltb, ne_eqb}
 use Rattle.std.proofs.lemmas.Bool.Decides.{nat_tests}
@@ -11,9 +11,10 @@ use Rattle.std.proofs.lemmas.Fmt.{decimal_is_IsNumeral_wide}
 use Rattle.std.proofs.lemmas.Str.Parse.{digit_from_value}
 use Rattle.xn_gml.specs.declared.token.Kind.{Kind}
 use Rattle.xn_gml.specs.declared.token.Kind.TheVariants.{Number}
-use Rattle.xn_gml.specs.Rules.{Lacks, IsStopped}
+use Rattle.xn_gml.specs.Rules.{NonePasses, IsStopped}
 use Rattle.xn_gml.specs.Runs.{is_letter, is_word, is_sign, is_dot, is_e, unsigned, is_digits, is_decimal, is_scaled, is_number, signed, integer_of, kind_of_run}
 use Rattle.xn_gml.specs.Tokens.{is_quote, ends_run}
+use Rattle.xn_gml.proofs.TokenRules.{missing}
 use Rattle.xn_show.specs.Text.{spaced}
 use Rattle.xn_show.proofs.TokenKinds.{Reads, run_first}
 
@@ -34,7 +35,7 @@ pub decimal_digits : (n : ℕ) → n < 10 ^ 64 → Digits (decimal n)
 decimal_digits n small = digits_from (decimal n) (decimal_is_IsNumeral_wide n small).0.1
 
 -- a test that no digit passes
-lacks_digits : (test : ℕ → Bool) → ((b : ℕ) → IsInRange 48 57 b → test b ≡ false) → (ds : List ℕ) → Digits ds → Lacks test ds
+lacks_digits : (test : ℕ → Bool) → ((b : ℕ) → IsInRange 48 57 b → test b ≡ false) → (ds : List ℕ) → Digits ds → NonePasses test ds
 lacks_digits test none [] digits = tt
 lacks_digits test none (d ∷ ds) digits = (none d digits.0, lacks_digits test none ds digits.1)
 
@@ -71,15 +72,8 @@ all_digits : (ds : List ℕ) → Digits ds → list_all is_ascii_digit ds ≡ tr
 all_digits [] digits = refl
 all_digits (d ∷ ds) digits = rw (digit_is d digits.0, all_digits ds digits.1) refl
 
-place_none : (test : ℕ → Bool) (xs : List ℕ) → Lacks test xs → position_or_len test xs ≡ length xs
-place_none test [] lacks = refl
-place_none test (x ∷ xs) lacks = rw lacks.0 (omega (arith, place_none test xs lacks.1))
-
 no_place : (n : ℕ) → cond (ltb n n) (Some n) None ≡ None
 no_place n = rw (le-ltb n n (omega arith)) refl
-
-missing : (test : ℕ → Bool) (xs : List ℕ) → Lacks test xs → position test xs ≡ None
-missing test xs lacks = ap (λ (m : ℕ). cond (ltb m (length xs)) (Some m) None) (place_none test xs lacks) ∙ no_place (length xs)
 
 module _ (d : ℕ) (ds : List ℕ) (digits : Digits (d ∷ ds)) where
   not_empty : (length (d ∷ ds) == 0) ≡ false
@@ -146,20 +140,20 @@ module _ {rest end : List ℕ} {ls : List Kind} (after : Reads rest ls end) (sto
 
 -- ---- strings
 
-lacks-append : (test : ℕ → Bool) (xs ys : List ℕ) → Lacks test xs → Lacks test ys → Lacks test (xs ++ ys)
+lacks-append : (test : ℕ → Bool) (xs ys : List ℕ) → NonePasses test xs → NonePasses test ys → NonePasses test (xs ++ ys)
 lacks-append test [] ys first second = second
 lacks-append test (x ∷ xs) ys first second = (first.0, lacks-append test xs ys first.1 second)
 
-no_quote : (n : ℕ) → n < 10 ^ 64 → Lacks is_quote (decimal n)
+no_quote : (n : ℕ) → n < 10 ^ 64 → NonePasses is_quote (decimal n)
 no_quote n small = lacks_digits is_quote digit_no_quote (decimal n) (decimal_digits n small)
 
 -- a signed spelling has no quote
-pub signed_no_quote : (z : ℤ) → FitsSigned w64 z → Lacks is_quote (signed_decimal z)
+pub signed_no_quote : (z : ℤ) → FitsSigned w64 z → NonePasses is_quote (signed_decimal z)
 signed_no_quote (pos n) fits = let small = fits.sfits in no_quote n (omega arith)
 signed_no_quote (negsuc n) fits = let small = fits.sfits in (refl, no_quote (suc n) (omega arith))
 
 -- numbers with spaces between them have no quote
-pub spaced_no_quote : (ns : List ℕ) → AllByRecursion (λ n. n < 10 ^ 64) ns → Lacks is_quote (spaced ns)
+pub spaced_no_quote : (ns : List ℕ) → AllByRecursion (λ n. n < 10 ^ 64) ns → NonePasses is_quote (spaced ns)
 spaced_no_quote [] small = tt
 spaced_no_quote (n ∷ []) small = no_quote n small.0
 spaced_no_quote (n ∷ m ∷ ns) small = lacks-append is_quote (decimal n) (32 ∷ spaced (m ∷ ns)) (no_quote n small.0) (refl, spaced_no_quote (m ∷ ns) small.1)

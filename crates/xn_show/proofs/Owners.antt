@@ -7,13 +7,6 @@ use Rattle.xn_orders.proofs.Limits.{length-segments_of}
 use Rattle.xn_show.specs.Text.{segment_edges}
 use Rattle.xn_show.proofs.Appended.{each_more}
 
-replicate_last : {X : Type 0} (n : ℕ) (x : X) → replicate (suc n) x ≡ replicate n x ++ x ∷ []
-replicate_last zero x = refl
-replicate_last (suc n) x = ap (λ xs. x ∷ xs) (replicate_last n x)
-
-pub replicate_more : {X : Type 0} (n : ℕ) (x : X) → replicate (n + 1) x ≡ replicate n x ++ x ∷ []
-replicate_more n x = let on : n + 1 ≡ suc n = omega arith in ap (λ (k : ℕ). replicate k x) on ∙ replicate_last n x
-
 pub length-replicate : {X : Type 0} (n : ℕ) (x : X) → length (replicate n x) ≡ n
 length-replicate zero x = refl
 length-replicate (suc n) x = ap suc (length-replicate n x)

@@ -8,7 +8,7 @@ use Rattle.xn_gml.specs.declared.token.Kind.{Kind}
 use Rattle.xn_gml.specs.declared.token.Kind.TheVariants.{Open, Close}
 use Rattle.xn_gml.specs.declared.token.Token.{Token}
 use Rattle.xn_gml.specs.Grammar.{grammar_from}
-use Rattle.xn_gml.specs.Lists.{lists_of, pairs_from}
+use Rattle.xn_gml.specs.Lists.{lists_of, listed_pairs_from}
 use Rattle.xn_gml.specs.Meaning.{integer_at, value_in}
 use Rattle.xn_gml.specs.Tokens.{token}
 use Rattle.xn_show.proofs.Lines.{node_kinds, segment_kinds}
@@ -42,22 +42,22 @@ pub segment_keeps : (end s : ℕ) (ends : ℕ × ℕ) (e : ℕ) → Passes (gram
 unfolding grammar_from
 segment_keeps end s ends e f ls = (without_first 11 f, refl)
 
-pub node_inside : (input : Bool) (v : ℕ) → Passes (pairs_from 1) (node_kinds input v)
-unfolding pairs_from
+pub node_inside : (input : Bool) (v : ℕ) → Passes (listed_pairs_from 1) (node_kinds input v)
+unfolding listed_pairs_from
 node_inside true v f ls = (without_first 11 f, refl)
 node_inside false v f ls = (without_first 9 f, refl)
 
-pub segment_inside : (s : ℕ) (ends : ℕ × ℕ) (e : ℕ) → Passes (pairs_from 1) (segment_kinds s ends e)
-unfolding pairs_from
+pub segment_inside : (s : ℕ) (ends : ℕ × ℕ) (e : ℕ) → Passes (listed_pairs_from 1) (segment_kinds s ends e)
+unfolding listed_pairs_from
 segment_inside s ends e f ls = (without_first 11 f, refl)
 
 pub node_is_no_edge : (input : Bool) (v : ℕ) → Passes (lists_of key.Edge) (node_kinds input v)
-unfolding pairs_from
+unfolding listed_pairs_from
 node_is_no_edge true v f ls = (without_first 11 f, refl)
 node_is_no_edge false v f ls = (without_first 9 f, refl)
 
 pub segment_is_no_node : (s : ℕ) (ends : ℕ × ℕ) (e : ℕ) → Passes (lists_of key.Node) (segment_kinds s ends e)
-unfolding pairs_from
+unfolding listed_pairs_from
 segment_is_no_node s ends e f ls = (without_first 11 f, refl)
 
 -- ---- blocks
@@ -83,7 +83,7 @@ abbrev block_of : Key → (ℕ → ℕ) → List Kind → Pair
 block_of k f ks = record { key = k; at = f 0; value = token (f 1) Open; list = located (without_first 2 f) (drop 2 ks) }
 
 pub node_block : (input : Bool) (v : ℕ) (f : ℕ → ℕ) (ls : List Kind) → BlockFirst key.Node f (node_kinds input v) ls (λ p. HasInteger key.Id p v)
-unfolding pairs_from value_in integer_at
+unfolding listed_pairs_from value_in integer_at
 node_block true v f ls = record {
   block = block_of key.Node f (node_kinds true v ++ ls);
   places = without_first 11 f;
@@ -98,7 +98,7 @@ node_block false v f ls = record {
 }
 
 pub segment_block : (s : ℕ) (ends : ℕ × ℕ) (e : ℕ) (f : ℕ → ℕ) (ls : List Kind) → BlockFirst key.Edge f (segment_kinds s ends e) ls (λ p. HasEnds p ends)
-unfolding pairs_from value_in integer_at
+unfolding listed_pairs_from value_in integer_at
 segment_block s ends e f ls = record {
   block = block_of key.Edge f (segment_kinds s ends e ++ ls);
   places = without_first 11 f;
@@ -127,10 +127,10 @@ pub close_keeps : (end : ℕ) (f : ℕ → ℕ) → grammar_from end false 1 (lo
 unfolding grammar_from
 close_keeps end f = refl
 
-pub close_inside : (f : ℕ → ℕ) → pairs_from 1 (located f (Close ∷ [])) ≡ []
-unfolding pairs_from
+pub close_inside : (f : ℕ → ℕ) → listed_pairs_from 1 (located f (Close ∷ [])) ≡ []
+unfolding listed_pairs_from
 close_inside f = refl
 
 pub close_has_none : (k : Key) (f : ℕ → ℕ) → lists_of k (located f (Close ∷ [])) ≡ []
-unfolding pairs_from
+unfolding listed_pairs_from
 close_has_none k f = refl

@@ -18,13 +18,14 @@ use Rattle.xn_gml.specs.declared.token.Kind.{Kind}
 use Rattle.xn_gml.specs.declared.token.Kind.TheVariants.{Open, Close, Word}
 use Rattle.xn_gml.specs.declared.token.Token.{Token}
 use Rattle.xn_gml.specs.Grammar.{grammar_from}
-use Rattle.xn_gml.specs.Lists.{is_list_of, lists_of, pairs_from}
+use Rattle.xn_gml.specs.Lists.{is_list_of, lists_of, listed_pairs_from}
 use Rattle.xn_gml.specs.Meaning.{edges_from, graph_in, graph_within, ids_from, list_of, no_edges}
 use Rattle.xn_gml.specs.Tokens.{ends_run, token, tokens_from, tokens_of}
 use Rattle.xn_kinds.specs.declared.drawings.Drawing.{Drawing}
 use Rattle.xn_orders.proofs.Limits.{web_limited}
 use Rattle.xn_orders.proofs.LoopFree.{no_loop}
 use Rattle.xn_orders.proofs.Rising.{each_append}
+use Rattle.xn_gml.proofs.TokenRules.{no_bytes}
 use Rattle.xn_show.specs.Laws.{found_web, numbered}
 use Rattle.xn_show.specs.Text.{node_line, segment_edges, segment_line, segments_text, show_text}
 use Rattle.xn_graph.specs.Stars.{darts_of}
@@ -83,25 +84,21 @@ inner f ks = located (without_first 2 f) (Word key.Other ∷ integer 0 ∷ ks)
 abbrev graph_pair : (ℕ → ℕ) → List Kind → Pair
 graph_pair f ks = record { key = key.Graph; at = f 0; value = token (f 1) Open; list = inner f ks }
 
-head_is_graph : (f : ℕ → ℕ) (ks : List Kind) → pairs_from 1 (located (without_first 4 f) ks) ≡ [] → lists_of key.Graph (located f (all_kinds ks)) ≡ graph_pair f ks ∷ []
-unfolding pairs_from
+head_is_graph : (f : ℕ → ℕ) (ks : List Kind) → listed_pairs_from 1 (located (without_first 4 f) ks) ≡ [] → lists_of key.Graph (located f (all_kinds ks)) ≡ graph_pair f ks ∷ []
+unfolding listed_pairs_from
 head_is_graph f ks none = ap (λ (ps : List Pair). graph_pair f ks ∷ filter (is_list_of key.Graph) ps) none
 
 inner_nodes : (f : ℕ → ℕ) (ks : List Kind) → lists_of key.Node (inner f ks) ≡ lists_of key.Node (located (without_first 4 f) ks)
-unfolding pairs_from
+unfolding listed_pairs_from
 inner_nodes f ks = refl
 
 inner_edges : (f : ℕ → ℕ) (ks : List Kind) → lists_of key.Edge (inner f ks) ≡ lists_of key.Edge (located (without_first 4 f) ks)
-unfolding pairs_from
+unfolding listed_pairs_from
 inner_edges f ks = refl
 
 no_mark : (rest : List ℕ) → tokens_of (codes "graph [\n  directed 0\n" ++ rest) ≡ tokens_from 0 0 (codes "graph [\n  directed 0\n" ++ rest)
 unfolding tokens_of
 no_mark rest = refl
-
-at_end : (stop : ℕ) → tokens_from 0 stop [] ≡ []
-unfolding tokens_from
-at_end stop = refl
 
 list_is : (text : List ℕ) (f : ℕ → ℕ) (ks : List Kind) → tokens_of text ≡ located f (all_kinds ks) → ((end : ℕ) → grammar_from end false 0 (located f (all_kinds ks)) ≡ Ok tt) →
     lists_of key.Graph (located f (all_kinds ks)) ≡ graph_pair f ks ∷ [] → list_of text ≡ Ok (inner f ks)
@@ -170,10 +167,10 @@ module _ (g : Graph) (ids : List ℤ) (d : Drawing) (limited : IsLimitedGraph g)
       let segments = passes_all (grammar_from end false 1) segments_kinds (λ s. segment_keeps end s (ends_at web.ends s) (at of s)) (range_with_len 0 (length web.ends)) nodes.0 (Close ∷ []) in
       nodes.1 ∙ segments.1 ∙ close_keeps end segments.0
 
-  inside : (f : ℕ → ℕ) → pairs_from 1 (located f lines) ≡ []
+  inside : (f : ℕ → ℕ) → listed_pairs_from 1 (located f lines) ≡ []
   inside f =
-      let nodes = passes_all (pairs_from 1) nodes_kinds (λ v. node_inside (ltb v (length ids)) v) (range_with_len 0 web.nodes) f last_kinds in
-      let segments = passes_all (pairs_from 1) segments_kinds (λ s. segment_inside s (ends_at web.ends s) (at of s)) (range_with_len 0 (length web.ends)) nodes.0 (Close ∷ []) in
+      let nodes = passes_all (listed_pairs_from 1) nodes_kinds (λ v. node_inside (ltb v (length ids)) v) (range_with_len 0 web.nodes) f last_kinds in
+      let segments = passes_all (listed_pairs_from 1) segments_kinds (λ s. segment_inside s (ends_at web.ends s) (at of s)) (range_with_len 0 (length web.ends)) nodes.0 (Close ∷ []) in
       nodes.1 ∙ segments.1 ∙ close_inside segments.0
 
   node_blocks : (f : ℕ → ℕ) → EachPair (λ v p. HasInteger key.Id p v) (range_with_len 0 web.nodes) (lists_of key.Node (located f lines))
@@ -196,7 +193,7 @@ module _ (g : Graph) (ids : List ℤ) (d : Drawing) (limited : IsLimitedGraph g)
       let read = reads_text 0 in
       let f = read.places in
       let tokens : tokens_of text ≡ located f (all_kinds lines) =
-      no_mark _ ∙ read.tokens ∙ ap (λ (ts : List Token). located f (all_kinds lines) ++ ts) (at_end read.stop) ∙ append-nil (located f (all_kinds lines)) in
+      no_mark _ ∙ read.tokens ∙ ap (λ (ts : List Token). located f (all_kinds lines) ++ ts) (no_bytes read.stop) ∙ append-nil (located f (all_kinds lines)) in
       let after = without_first 4 f in
       let list : list_of text ≡ Ok (inner f lines) =
       list_is text f lines tokens (λ end. head_keeps end f lines ∙ keeps end after) (head_is_graph f lines (inside after)) in

@@ -4,7 +4,7 @@ use Rattle.std.proofs.lemmas.Bool.{both_ways, cases_Bool}
 use Rattle.xn_gml.specs.declared.token.Kind.{Kind}
 use Rattle.xn_gml.specs.declared.token.Kind.TheVariants.{Open, Close, Quoted}
 use Rattle.xn_gml.specs.declared.token.Token.{Token}
-use Rattle.xn_gml.specs.Rules.{Lacks, IsStopped}
+use Rattle.xn_gml.specs.Rules.{NonePasses, IsStopped}
 use Rattle.xn_gml.specs.Runs.{kind_of_run}
 use Rattle.xn_gml.specs.Tokens.{is_separator, is_quote, ends_run, token, tokens_from}
 use Rattle.xn_gml.proofs.TokenRules.{separator_is_passed, bracket_is_token, string_is_token, run_is_token}
@@ -73,13 +73,13 @@ module _ {rest end : List ℕ} {ls : List Kind} (after : Reads rest ls end) wher
       let one : Reads (93 ∷ rest) (Close ∷ []) rest = λ start. record { places = λ i. start; stop = start + 1; tokens = (bracket_is_token start rest).1 } in
       reads_then (93 ∷ rest) (Close ∷ []) rest ls end one after
 
-  pub string_first : (text : List ℕ) → Lacks is_quote text → Reads (34 ∷ (text ++ 34 ∷ rest)) (Quoted ∷ ls) end
+  pub string_first : (text : List ℕ) → NonePasses is_quote text → Reads (34 ∷ (text ++ 34 ∷ rest)) (Quoted ∷ ls) end
   string_first text lacks =
       let one : Reads (34 ∷ (text ++ 34 ∷ rest)) (Quoted ∷ []) rest = λ start.
       record { places = λ i. start; stop = start + 2 + length text; tokens = string_is_token start text rest lacks } in
       reads_then (34 ∷ (text ++ 34 ∷ rest)) (Quoted ∷ []) rest ls end one after
 
-  pub run_first : (b : ℕ) (run : List ℕ) (kind : Kind) → (b == 35) ≡ false → Lacks ends_run (b ∷ run) → IsStopped ends_run rest → kind_of_run (b ∷ run) ≡ kind → Reads (b ∷ (run ++ rest)) (kind ∷ ls) end
+  pub run_first : (b : ℕ) (run : List ℕ) (kind : Kind) → (b == 35) ≡ false → NonePasses ends_run (b ∷ run) → IsStopped ends_run rest → kind_of_run (b ∷ run) ≡ kind → Reads (b ∷ (run ++ rest)) (kind ∷ ls) end
   run_first b run kind hash lacks stopped is =
       let one : Reads (b ∷ (run ++ rest)) (kind ∷ []) rest = λ start. record {
         places = λ i. start;
@@ -94,7 +94,7 @@ abbrev pub none_passes : (ℕ → Bool) → List ℕ → Bool
 none_passes test [] = true
 none_passes test (x ∷ xs) = cond (test x) false (none_passes test xs)
 
-pub lacks_tested : (test : ℕ → Bool) (xs : List ℕ) → none_passes test xs ≡ true → Lacks test xs
+pub lacks_tested : (test : ℕ → Bool) (xs : List ℕ) → none_passes test xs ≡ true → NonePasses test xs
 lacks_tested test [] h = tt
 lacks_tested test (x ∷ xs) h = elim (cases_Bool (test x)) [
   | inl passes ↦ absurd (both_ways false refl (rw passes at h))

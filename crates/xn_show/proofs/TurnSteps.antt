@@ -4,6 +4,7 @@ use Rattle.xn_model.specs.Lists.{at}
 use Rattle.xn_model.specs.Permutation.{iterate, walk}
 use Rattle.xn_graph.specs.Stars.{darts_of}
 use Rattle.xn_graph.proofs.DartsOf.{darts_of-at}
+use Rattle.xn_model.proofs.Decide.{iterate-step}
 use Rattle.xn_show.specs.Darts.{LeadsInside, StaysIn}
 
 -- the darts of a node stay among those that are listed
@@ -17,20 +18,12 @@ stays_in ends next star v is leads = record {
 
 -- ---- the walk round a node
 
-iterate_shift : (f : ℕ → ℕ) (k d : ℕ) → iterate f k (f d) ≡ f (iterate f k d)
-iterate_shift f zero d = refl
-iterate_shift f (suc k) d = ap f (iterate_shift f k d)
-
 walk_last : (f : ℕ → ℕ) (k d : ℕ) → walk f (suc k) d ≡ walk f k d ++ iterate f k d ∷ []
 walk_last f zero d = refl
-walk_last f (suc k) d = ap (λ (ds : List ℕ). d ∷ ds) (walk_last f k (f d) ∙ ap (λ (e : ℕ). walk f k (f d) ++ e ∷ []) (iterate_shift f k d))
+walk_last f (suc k) d = ap (λ (ds : List ℕ). d ∷ ds) (walk_last f k (f d) ∙ ap (λ (e : ℕ). walk f k (f d) ++ e ∷ []) (iterate-step f k d))
 
 pub walk_more : (f : ℕ → ℕ) (k d : ℕ) → walk f (k + 1) d ≡ walk f k d ++ iterate f k d ∷ []
 walk_more f k d = let on : k + 1 ≡ suc k = omega arith in ap (λ (n : ℕ). walk f n d) on ∙ walk_last f k d
 
 pub iterate_more : (f : ℕ → ℕ) (k d : ℕ) → f (iterate f k d) ≡ iterate f (k + 1) d
 iterate_more f k d = let on : suc k ≡ k + 1 = omega arith in ap (λ (n : ℕ). iterate f n d) on
-
-pub length-walk : (f : ℕ → ℕ) (k d : ℕ) → length (walk f k d) ≡ k
-length-walk f zero d = refl
-length-walk f (suc k) d = ap suc (length-walk f k (f d))

@@ -10,13 +10,13 @@ use Rattle.xn_model.specs.Permutation.{Permutes, iterate, walk}
 use Rattle.xn_ring.proofs.Counting.{count-none}
 use Rattle.xn_ring.proofs.Marked.{any_walk_at, any_walk_from}
 use Rattle.xn_ring.proofs.Marks.{count_marks}
-use Rattle.xn_ring.proofs.Orbits.{comes_back, first_below, iterate-add, iterate-step, iterate_apart, iterate_below, within_round}
+use Rattle.xn_ring.proofs.Orbits.{comes_back, first_below, iterate-add, iterate_apart, iterate_below, within_round}
 use Rattle.xn_map.proofs.Arcs.{tail_walk}
+use Rattle.xn_model.proofs.Decide.{iterate-step, length-walk}
 use Rattle.xn_show.specs.Laws.{TurnsGoRound}
 use Rattle.xn_graph.specs.Stars.{darts_of}
 use Rattle.xn_graph.proofs.DartsOf.{darts_of-at, darts_of-least, darts_of-place, length-darts_of}
 use Rattle.xn_show.specs.Turns.{HasDartsOnce, turn_of}
-use Rattle.xn_show.proofs.TurnSteps.{length-walk}
 
 -- ---- a walk that comes back
 

@@ -1,25 +1,16 @@
 -- In every drawing the value of a row that holds is at least 1.
-use Rattle.std.proofs.Common.{◌≡◌, ℕ, zero, suc, ◌+◌, ◌<◌, ◌≤◌, inl, inr, true, eqb, length, sym, arith}
-use Rattle.std.specs.List.{range_with_len}
-use Rattle.std.proofs.lemmas.Bool.{cases_eq, or_left, or_right, eq-eqb}
+use Rattle.std.proofs.Common.{◌<◌, inl, inr, length, sym, arith}
+use Rattle.std.proofs.lemmas.Bool.{cases_eq}
 use Rattle.xn_model.specs.Graph.{edges_of}
-use Rattle.xn_model.specs.Lists.{has}
 use Rattle.xn_extend.specs.Laws.{StuckMeansNoFlatMap}
 use Rattle.xn_kinds.specs.Row.{orders_of, value_of, values_in}
 use Rattle.xn_kinds.specs.declared.rows.Evidence.TheVariants.{Five, ThreeThree, Extension}
 use Rattle.xn_kura.specs.Laws.{FiveExcludesFlat, ThreeThreeExcludesFlat}
 use Rattle.xn_fewer.specs.Laws.{FewerEdgesStayFlat}
+use Rattle.xn_model.proofs.Has.{has-all, has-range}
 use Rattle.xn_sound.specs.Laws.{EvidenceExcludesFlatMaps, RowsAreMet, ZeroMeansTheRowsOrders}
-use Rattle.xn_fewer.proofs.Rising.{has-all, rising-from_increasing}
+use Rattle.xn_fewer.proofs.Rising.{rising-from_increasing}
 use Rattle.xn_sound.proofs.Same.{less_is}
-
--- a number of a range stands in it
-has-range : (a n e : ℕ) → a ≤ e → e < a + n → has (range_with_len a n) e ≡ true
-has-range a zero e low high = absurd (omega arith)
-has-range a (suc n) e low high = elim (cases_eq a e) [
-  | inl same ↦ or_left (eqb a e) _ (eq-eqb a e same)
-  | inr other ↦ or_right (eqb a e) (has (range_with_len (a + 1) n) e) (has-range (a + 1) n e (omega arith) (omega arith))
-]
 
 pub zero_means_the_rows_orders : ZeroMeansTheRowsOrders
 zero_means_the_rows_orders g row ord some all none = record {

@@ -8,8 +8,9 @@ use Rattle.xn_model.specs.Lists.{has, neighbours, one_if, position_in, stands_be
 use Rattle.xn_model.specs.Orders.{IsOrders}
 use Rattle.xn_kinds.specs.Row.{literal, values_in}
 use Rattle.xn_fewer.proofs.Crossings.{has_pair, is_pair, left_pair, not_of_itself, two_in}
-use Rattle.xn_fewer.proofs.Rising.{Rises, Rising, all_made, all_of, own_order, rises-filter, same_position, same_rising}
-use Rattle.xn_fewer.proofs.Has.{has-first, has-kept, has-later, has-picked}
+use Rattle.xn_fewer.proofs.Rising.{Rises, Rising, all_made, own_order, rises-filter, same_position, same_rising}
+use Rattle.xn_fewer.proofs.Has.{has-kept, has-picked}
+use Rattle.xn_model.proofs.Has.{all_of, has-first, has-later}
 
 -- ---- sums that are 0
 

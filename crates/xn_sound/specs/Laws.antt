@@ -5,7 +5,7 @@ use Rattle.xn_model.specs.Examples.{k5}
 use Rattle.xn_model.specs.Graph.{Graph, IsGraph, edges_of}
 use Rattle.xn_model.specs.Map.{IsFlat}
 use Rattle.xn_model.specs.Orders.{IsOrders, crossing_count}
-use Rattle.xn_fewer.specs.Laws.{IsRestriction}
+use Rattle.xn_fewer.specs.Laws.{RestrictsOrders}
 use Rattle.xn_kinds.specs.Examples.{k5_and_two}
 use Rattle.xn_kinds.specs.Row.{EvidenceHolds, RowHolds, orders_of, value_of, values_in}
 use Rattle.xn_kinds.specs.State.{State, LiesIn, empty_state}
@@ -21,7 +21,7 @@ use Rattle.xn_kinds.specs.declared.trees.Node.TheVariants.{Pair, Place, Leaf}
 abbrev pub ZeroMeansTheRowsOrders : Type 0
 ZeroMeansTheRowsOrders =
     (g : Graph) (row : Row) (ord : ℕ → List ℕ) → IsOrders g.ends row.edges (orders_of row) → IsOrders g.ends (edges_of g) ord →
-    value_of g row (values_in ord) ≡ 0 → IsRestriction (edges_of g) row.edges ord (orders_of row)
+    value_of g row (values_in ord) ≡ 0 → RestrictsOrders (edges_of g) row.edges ord (orders_of row)
 
 -- a web for which an evidence of any kind holds has no flat map
 abbrev pub EvidenceExcludesFlatMaps : Type 0

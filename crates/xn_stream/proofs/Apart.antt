@@ -12,17 +12,17 @@ use Rattle.xn_check.specs.Judging.{Rules, StopsAt}
 use Rattle.xn_check.specs.Verdict.{check_rules}
 use Rattle.xn_check.proofs.OneOutcome.{all_apart, one_verdict}
 use Rattle.xn_stream.specs.Laws.{ComesWithoutFlaw, FlawsStay, HoldsOneFlaw}
-use Rattle.xn_stream.specs.Pieces.{FailsNext, GoesOn, HasCome, HoldsFlaw, LeadTo, whole_lines}
+use Rattle.xn_stream.specs.Pieces.{FailsNext, OnKept, HasCome, HoldsFlaw, LeadTo, whole_lines}
 use Rattle.xn_stream.proofs.Come.{behind_end, flaw_comes, flaw_stays}
 use Rattle.xn_stream.proofs.TextLines.{none_ended, one_first}
 
 module _ {S A : Type 0} (rules : Rules S A) (clear : (s : S) (x : Item) (kind : FlawKind) → rules.agrees s x → rules.fails s x kind → ⊥) where
-  stops_not : (s : S) (number : ℕ) (r : Result (Item × Reached) Flaw) (P : Reached → S → Type 0) (flaw : Flaw) → GoesOn rules s r P →
+  stops_not : (s : S) (number : ℕ) (r : Result (Item × Reached) Flaw) (P : Reached → S → Type 0) (flaw : Flaw) → OnKept rules s r P →
       StopsAt rules s number r (errors.Refused flaw) → ⊥
   stops_not s number (Ok next) P flaw goes stops = clear s next.0 flaw.kind goes.0 stops.0
   stops_not s number (Err broken) P flaw goes stops = goes
 
-  both_go : (s : S) (r : Result (Item × Reached) Flaw) (P Q : Reached → S → Type 0) → GoesOn rules s r P → GoesOn rules s r Q →
+  both_go : (s : S) (r : Result (Item × Reached) Flaw) (P Q : Reached → S → Type 0) → OnKept rules s r P → OnKept rules s r Q →
       ((a : Reached) (t : S) → P a t → Q a t → ⊥) → ⊥
   both_go s (Ok next) P Q first second none = none next.1 (rules.more s next.0) first.1 second.1
   both_go s (Err broken) P Q first second none = first
@@ -36,10 +36,10 @@ module _ {S A : Type 0} (rules : Rules S A) (clear : (s : S) (x : Item) (kind : 
   ]
 
   -- a line that goes on comes first
-  kept_fails : (at : Reached) (s : S) (line more rest : List ℕ) (P : Reached → S → Type 0) (flaw : Flaw) → Lacks 10 line → GoesOn rules s (next_at at (line, true)) P →
+  kept_fails : (at : Reached) (s : S) (line more rest : List ℕ) (P : Reached → S → Type 0) (flaw : Flaw) → Lacks 10 line → OnKept rules s (next_at at (line, true)) P →
       line ++ 10 ∷ more ≡ rest → FailsNext rules at s rest flaw → ⊥
   kept_fails at s line more rest P flaw lacks goes is fails = elim fails [
-    | inl end ↦ subst (λ (r : Result (Item × Reached) Flaw). GoesOn rules s r P) (behind_end at (line, true) end.0) goes
+    | inl end ↦ subst (λ (r : Result (Item × Reached) Flaw). OnKept rules s r P) (behind_end at (line, true) end.0) goes
     | inr other ↦
         let same = one_first line other.0 more other.1 lacks other.3 (is ∙ other.2) in
         stops_not s at.0 (next_at at (line, true)) P flaw goes
@@ -56,13 +56,13 @@ module _ {S A : Type 0} (rules : Rules S A) (clear : (s : S) (x : Item) (kind : 
       none_ended begun o (whole_lines others ++ rest) lacks_ten (same ∙ append_assoc o (10 ∷ whole_lines others) rest)
   not_both (l ∷ lines) [] a at by u s t begun rest flaw lack lacks lead leads lacks_ten none same fails =
       let here : FailsNext rules a u rest flaw =
-          subst (λ (b : Reached). FailsNext rules b u rest flaw) leads.0 (subst (λ (v : S). FailsNext rules by v rest flaw) leads.1 fails) in
+      subst (λ (b : Reached). FailsNext rules b u rest flaw) leads.0 (subst (λ (v : S). FailsNext rules by v rest flaw) leads.1 fails) in
       kept_fails a u l (whole_lines lines ++ begun) rest (λ b v. LeadTo rules b v lines at s) flaw (All-head (Lacks 10) l lines lack) lead
       (sym (append_assoc l (10 ∷ whole_lines lines) begun) ∙ same) here
   not_both (l ∷ lines) (o ∷ others) a at by u s t begun rest flaw lack lacks lead leads lacks_ten none same fails =
       let first = one_first l o (whole_lines lines ++ begun) (whole_lines others ++ rest) (All-head (Lacks 10) l lines lack) (All-head (Lacks 10) o others lacks)
-          (sym (append_assoc l (10 ∷ whole_lines lines) begun) ∙ same ∙ append_assoc o (10 ∷ whole_lines others) rest) in
-      let second = subst (λ (x : List ℕ). GoesOn rules u (next_at a (x, true)) (λ b v. LeadTo rules b v others by t)) (sym first.0) leads in
+      (sym (append_assoc l (10 ∷ whole_lines lines) begun) ∙ same ∙ append_assoc o (10 ∷ whole_lines others) rest) in
+      let second = subst (λ (x : List ℕ). OnKept rules u (next_at a (x, true)) (λ b v. LeadTo rules b v others by t)) (sym first.0) leads in
       both_go u (next_at a (l, true)) (λ b v. LeadTo rules b v lines at s) (λ b v. LeadTo rules b v others by t) lead second
       (λ b v p q. not_both lines others b at by v s t begun rest flaw (All-tail (Lacks 10) l lines lack) (All-tail (Lacks 10) o others lacks) p q lacks_ten none first.1 fails)
 

@@ -12,7 +12,7 @@ use Rattle.xn_proof.specs.declared.flaw.AnswerErr.TheVariants as errors
 use Rattle.xn_proof.specs.declared.item.Item.{Item}
 use Rattle.xn_proof.specs.declared.places.Place.{Place}
 use Rattle.xn_check.specs.Judging.{AtEnd, Judges, JudgesTo, KeepsRules, OnLine, Rules, StopsAt, Took}
-use Rattle.xn_stream.specs.Pieces.{AreLines, FailsNext, Finds, GoesOn, HasCome, HoldsFlaw, LeadTo, whole_lines, with_end}
+use Rattle.xn_stream.specs.Pieces.{AreLines, FailsNext, ComesOrFails, OnKept, HasCome, HoldsFlaw, LeadTo, whole_lines, with_end}
 use Rattle.xn_stream.proofs.TextLines.{ended_first, last_only, some_first, whole_more}
 
 -- ---- lines behind the end, and lines that aren't ended
@@ -41,13 +41,13 @@ not_ended at bytes e = ap (next_by at.0) (last_line (is_end at.1) (trailing at.0
 module _ {S A : Type 0} (rules : Rules S A) where
   -- ---- whole lines
 
-  pub goes_with : (s : S) (r : Result (Item × Reached) Flaw) (P Q : Reached → S → Type 0) → GoesOn rules s r P → ((a : Reached) (t : S) → P a t → Q a t) →
-      GoesOn rules s r Q
+  pub goes_with : (s : S) (r : Result (Item × Reached) Flaw) (P Q : Reached → S → Type 0) → OnKept rules s r P → ((a : Reached) (t : S) → P a t → Q a t) →
+      OnKept rules s r Q
   goes_with s (Ok next) P Q h more = (h.0, more next.1 (rules.more s next.0) h.1)
   goes_with s (Err flaw) P Q h more = absurd h
 
   kept_goes : (s t : S) (later : Reached) (r : Result (Item × Reached) Flaw) → KeepsRules rules s r later t →
-      GoesOn rules s r (λ a u. (later ≡ a) × (t ≡ u))
+      OnKept rules s r (λ a u. (later ≡ a) × (t ≡ u))
   kept_goes s t later (Ok next) h = (h.0, (h.1, h.2))
   kept_goes s t later (Err flaw) h = absurd h
 
@@ -56,7 +56,7 @@ module _ {S A : Type 0} (rules : Rules S A) where
       KeepsRules rules s (next_at at (line, true)) later t → LeadTo rules a u (lines ++ line ∷ []) later t
   lead_more [] line a at later u s t lead kept =
       let here : KeepsRules rules u (next_at a (line, true)) later t = subst (λ (b : Reached). KeepsRules rules u (next_at b (line, true)) later t) lead.0
-          (subst (λ (v : S). KeepsRules rules v (next_at at (line, true)) later t) lead.1 kept) in
+      (subst (λ (v : S). KeepsRules rules v (next_at at (line, true)) later t) lead.1 kept) in
       kept_goes u t later (next_at a (line, true)) here
   lead_more (l ∷ lines) line a at later u s t lead kept =
       goes_with u (next_at a (l, true)) (λ b v. LeadTo rules b v lines at s) (λ b v. LeadTo rules b v (lines ++ line ∷ []) later t) lead
@@ -73,7 +73,7 @@ module _ {S A : Type 0} (rules : Rules S A) where
 
   -- ---- what comes of the lines that follow comes of the text
 
-  on_line : (s : S) (number : ℕ) (r : Result (Item × Reached) Flaw) (P Rest : Reached → S → Type 0) (o : Result A Flaw) → GoesOn rules s r P →
+  on_line : (s : S) (number : ℕ) (r : Result (Item × Reached) Flaw) (P Rest : Reached → S → Type 0) (o : Result A Flaw) → OnKept rules s r P →
       ((a : Reached) (t : S) → P a t → Rest a t) → OnLine rules s number r Rest o
   on_line s number (Ok next) P Rest o h more = inl (h.0, more next.1 (rules.more s next.0) h.1)
   on_line s number (Err flaw) P Rest o h more = absurd h
@@ -84,7 +84,7 @@ module _ {S A : Type 0} (rules : Rules S A) where
       subst (λ (b : Reached). Judges rules b u (text_lines rest) o) lead.0 (subst (λ (v : S). Judges rules at v (text_lines rest) o) lead.1 judged)
   judged_from (l ∷ lines) rest a at u s o lack lead judged =
       let is : text_lines (whole_lines (l ∷ lines) ++ rest) ≡ (l, true) ∷ text_lines (whole_lines lines ++ rest) =
-          ap text_lines (append_assoc l (10 ∷ whole_lines lines) rest) ∙ ended_first l (whole_lines lines ++ rest) (All-head (Lacks 10) l lines lack) in
+      ap text_lines (append_assoc l (10 ∷ whole_lines lines) rest) ∙ ended_first l (whole_lines lines ++ rest) (All-head (Lacks 10) l lines lack) in
       subst (λ (ls : List Line). Judges rules a u ls o) (sym is)
       (on_line u a.0 (next_at a (l, true)) (λ b v. LeadTo rules b v lines at s) (λ b v. Judges rules b v (text_lines (whole_lines lines ++ rest)) o) o lead
       (λ b v after. judged_from lines rest b at v s o (All-tail (Lacks 10) l lines lack) after judged))
@@ -161,13 +161,13 @@ module _ {S A : Type 0} (rules : Rules S A) where
 
   -- behind the line `end`
   stops_behind : (text more : List ℕ) (at later : Reached) (s t : S) (begun after : List ℕ) (line : Line) (r : Result (Unit {0}) AnswerErr) → HasCome rules text at s begun →
-      is_end at.1 ≡ true → 0 < length more → Took rules at s line later t r → Finds rules (text ++ more) later t after r
+      is_end at.1 ≡ true → 0 < length more → Took rules at s line later t r → ComesOrFails rules (text ++ more) later t after r
   stops_behind text more at later s t begun after line (Ok u) come e some kept =
       absurd (subst (λ (n : Result (Item × Reached) Flaw). KeepsRules rules s n later t) (behind_end at line e) kept)
   stops_behind text more at later s t begun after line (Err errors.Memory) come e some stops = tt
   stops_behind text more at later s t begun after line (Err (errors.Refused flaw)) come e some stops =
       let is : trailing at.0 ≡ flaw =
-          subst (λ (n : Result (Item × Reached) Flaw). StopsAt rules s at.0 n (errors.Refused flaw)) (behind_end at line e) stops in
+      subst (λ (n : Result (Item × Reached) Flaw). StopsAt rules s at.0 n (errors.Refused flaw)) (behind_end at line e) stops in
       record {
         whole = come.whole;
         rest = begun ++ more;
@@ -191,12 +191,12 @@ module _ {S A : Type 0} (rules : Rules S A) where
 
   -- the end of a line that begins so
   line_comes : (text bytes line : List ℕ) (at later : Reached) (s t : S) (begun : List ℕ) (r : Result (Unit {0}) AnswerErr) → HasCome rules text at s begun →
-      Lacks 10 bytes → line ≡ begun ++ bytes → Took rules at s (line, true) later t r → Finds rules (text ++ (bytes ++ 10 ∷ [])) later t [] r
+      Lacks 10 bytes → line ≡ begun ++ bytes → Took rules at s (line, true) later t r → ComesOrFails rules (text ++ (bytes ++ 10 ∷ [])) later t [] r
   line_comes text bytes line at later s t begun (Ok u) come lacks is kept =
       let all : Lacks 10 line = subst (Lacks 10) (sym is) (All-append (λ b. b ≢ 10) begun bytes come.lacks lacks) in
       let same : text ++ (bytes ++ 10 ∷ []) ≡ come.whole ++ (line ++ 10 ∷ []) =
-          ap (λ (w : List ℕ). w ++ (bytes ++ 10 ∷ [])) come.text_is ∙ append_assoc come.whole begun (bytes ++ 10 ∷ [])
-          ∙ ap (λ (w : List ℕ). come.whole ++ w) (sym (append_assoc begun bytes (10 ∷ [])) ∙ ap (λ (w : List ℕ). w ++ 10 ∷ []) (sym is)) in
+      ap (λ (w : List ℕ). w ++ (bytes ++ 10 ∷ [])) come.text_is ∙ append_assoc come.whole begun (bytes ++ 10 ∷ [])
+      ∙ ap (λ (w : List ℕ). come.whole ++ w) (sym (append_assoc begun bytes (10 ∷ [])) ∙ ap (λ (w : List ℕ). w ++ 10 ∷ []) (sym is)) in
       record {
         whole = come.whole ++ (line ++ 10 ∷ []);
         lines = lines_more come.whole line at later s t come.lines all kept;
@@ -223,13 +223,13 @@ module _ {S A : Type 0} (rules : Rules S A) where
 
   pub found_behind : (text bytes : List ℕ) (ended : Bool) (at later : Reached) (s t : S) (begun after : List ℕ) (r : Result (Unit {0}) AnswerErr) →
       HasCome rules text at s begun → is_end at.1 ≡ true → 0 < length (with_end bytes ended) → Took rules at s (bytes, ended) later t r →
-      Finds rules (text ++ with_end bytes ended) later t after r
+      ComesOrFails rules (text ++ with_end bytes ended) later t after r
   found_behind text bytes ended at later s t begun after r come e some took =
       stops_behind text (with_end bytes ended) at later s t begun after (bytes, ended) r come e some took
 
   pub found_line : (text bytes line : List ℕ) (at later : Reached) (s t : S) (begun after : List ℕ) (r : Result (Unit {0}) AnswerErr) →
       HasCome rules text at s begun → Lacks 10 bytes → line ≡ begun ++ bytes → after ≡ [] → Took rules at s (line, true) later t r →
-      Finds rules (text ++ with_end bytes true) later t after r
+      ComesOrFails rules (text ++ with_end bytes true) later t after r
   found_line text bytes line at later s t begun after r come lacks is none took =
-      subst (λ (x : List ℕ). Finds rules (text ++ with_end bytes true) later t x r) (sym none)
+      subst (λ (x : List ℕ). ComesOrFails rules (text ++ with_end bytes true) later t x r) (sym none)
       (line_comes text bytes line at later s t begun r come lacks is took)

@@ -15,7 +15,7 @@ use Rattle.xn_check.specs.Said.{Said}
 use Rattle.xn_check.specs.Verdict.{check_rules}
 use Rattle.xn_check.specs.declared.verdicts.Accepted.{Accepted}
 use Rattle.xn_check.proofs.OneOutcome.{all_apart}
-use Rattle.xn_stream.specs.Pieces.{Finds, HasCome, HoldsFlaw, RefusesExactly}
+use Rattle.xn_stream.specs.Pieces.{ComesOrFails, HasCome, HoldsFlaw, RefusesExactly}
 use Rattle.xn_stream.specs.Stream.{IsKnownBy, StandsForText, Stream, rules_in}
 use Rattle.xn_stream.proofs.Apart.{no_flaw}
 use Rattle.xn_stream.proofs.Come.{comes_out, flaw_comes, flaw_stays}
@@ -74,7 +74,7 @@ module _ (v : Stream) (none : v.refused ≡ None) (text : List ℕ) (stands : St
       (stops_so (is_end v.judge.at.1) (rules_in v) v.judge.at.0 (said_of v.judge) _ flaw is)
 
   pub open_exactly : (piece : List ℕ) (at : Reached) (s : Said) (begun : List ℕ) (r : Result (Unit {0}) AnswerErr) →
-      (HasCome (rules_in v) text v.judge.at (said_of v.judge) v.begun → Finds (rules_in v) (text ++ piece) at s begun r) →
+      (HasCome (rules_in v) text v.judge.at (said_of v.judge) v.begun → ComesOrFails (rules_in v) (text ++ piece) at s begun r) →
       RefusesExactly (rules_in v) (text ++ piece) r
   open_exactly piece at s begun (Ok u) finds =
       λ flaw h. no_flaw (rules_in v) (all_apart (graph_kept v.judge) v.judge.loops) (text ++ piece) begun at s flaw (finds come) h
@@ -107,8 +107,8 @@ pieces_refused f xs i x piece g loops v e low here piece_is same_graph same_loop
     let so_far = flat_map f (take i xs) in
     let rest = flat_map f (drop (suc i) xs) in
     let same : rules_in v ≡ check_rules g loops =
-        ap (λ (h : Graph). check_rules h v.judge.loops) same_graph ∙ ap (λ (l : ℕ). check_rules g l) same_loops in
+    ap (λ (h : Graph). check_rules h v.judge.loops) same_graph ∙ ap (λ (l : ℕ). check_rules g l) same_loops in
     let all : flat_map f xs ≡ (so_far ++ piece) ++ rest =
-        flat_cut f xs i x low ∙ ap (λ (b : List ℕ). (so_far ++ b) ++ rest) (sym (piece_is ∙ ap f here)) in
+    flat_cut f xs i x low ∙ ap (λ (b : List ℕ). (so_far ++ b) ++ rest) (sym (piece_is ∙ ap f here)) in
     whole_refused (check_rules g loops) e (so_far ++ piece) rest (flat_map f xs)
     (subst (λ (r : Rules Said (ℕ × ℕ)). RefusesExactly r (so_far ++ piece) (Err e)) same refuses) all

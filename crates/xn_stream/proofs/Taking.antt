@@ -11,7 +11,7 @@ use Rattle.xn_check.specs.Judge.{HaveOneTask, IsReady, Kept, graph_kept, rules_o
 use Rattle.xn_check.specs.Judging.{Rules}
 use Rattle.xn_check.specs.Said.{Said}
 use Rattle.xn_check.specs.Verdict.{check_rules}
-use Rattle.xn_stream.specs.Pieces.{Finds, HasCome, HoldsFlaw, with_end}
+use Rattle.xn_stream.specs.Pieces.{ComesOrFails, HasCome, HoldsFlaw, with_end}
 use Rattle.xn_stream.specs.Stream.{LeadsOn}
 use Rattle.xn_stream.proofs.Come.{flaw_stays}
 
@@ -53,12 +53,12 @@ module _ (old now new : Kept) (begun piece part after bytes : List ℕ) (ended :
   all_on = append_assoc taken.done (with_end bytes ended) rest ∙ ap (λ (l : List ℕ). taken.done ++ l) (sym is) ∙ taken.cut
 
   found : (r : Result (Unit {0}) AnswerErr) → FindsPart now part bytes ended new after r → (text : List ℕ) → HasCome (rules_of old) text old.at (said_of old) begun →
-      Finds (rules_of old) (text ++ (taken.done ++ with_end bytes ended)) new.at (said_of new) after r
+      ComesOrFails (rules_of old) (text ++ (taken.done ++ with_end bytes ended)) new.at (said_of new) after r
   found r finds text come =
       let same = same_rules now old taken.task in
       let here = subst (λ (q : Rules Said (ℕ × ℕ)). HasCome q (text ++ taken.done) now.at (said_of now) part) (sym same) (taken.comes text come) in
-      subst (λ (t : List ℕ). Finds (rules_of old) t new.at (said_of new) after r) (cut_on text)
-      (subst (λ (q : Rules Said (ℕ × ℕ)). Finds q ((text ++ taken.done) ++ with_end bytes ended) new.at (said_of new) after r) same (finds (text ++ taken.done) here))
+      subst (λ (t : List ℕ). ComesOrFails (rules_of old) t new.at (said_of new) after r) (cut_on text)
+      (subst (λ (q : Rules Said (ℕ × ℕ)). ComesOrFails q ((text ++ taken.done) ++ with_end bytes ended) new.at (said_of new) after r) same (finds (text ++ taken.done) here))
 
   pub part_on : FindsPart now part bytes ended new after (Ok tt) → HaveOneTask new now → IsReady new → IsTaken old begun piece new after rest
   part_on finds task ready = record {
@@ -70,11 +70,11 @@ module _ (old now new : Kept) (begun piece part after bytes : List ℕ) (ended :
   }
 
   pub part_stops : (e : AnswerErr) → FindsPart now part bytes ended new after (Err e) → (text : List ℕ) → HasCome (rules_of old) text old.at (said_of old) begun →
-      Finds (rules_of old) (text ++ piece) new.at (said_of new) after (Err e)
+      ComesOrFails (rules_of old) (text ++ piece) new.at (said_of new) after (Err e)
   part_stops errors.Memory finds text come = tt
   part_stops (errors.Refused flaw) finds text come =
       let whole : (text ++ (taken.done ++ with_end bytes ended)) ++ rest ≡ text ++ piece =
-          append_assoc text (taken.done ++ with_end bytes ended) rest ∙ ap (λ (l : List ℕ). text ++ l) all_on in
+      append_assoc text (taken.done ++ with_end bytes ended) rest ∙ ap (λ (l : List ℕ). text ++ l) all_on in
       subst (λ (t : List ℕ). HoldsFlaw (rules_of old) t flaw) whole
       (flaw_stays (rules_of old) (text ++ (taken.done ++ with_end bytes ended)) rest flaw (found (Err (errors.Refused flaw)) finds text come))
 

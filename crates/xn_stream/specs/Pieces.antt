@@ -17,15 +17,15 @@ whole_lines [] = []
 whole_lines (line ∷ lines) = line ++ 10 ∷ whole_lines lines
 
 -- a line keeps its form and means what it must, and so does the rest
-abbrev pub GoesOn : {S A : Type 0} → Rules S A → S → Result (Item × Reached) Flaw → (Reached → S → Type 0) → Type 0
-GoesOn rules s (Ok next) Rest = rules.agrees s next.0 × Rest next.1 (rules.more s next.0)
-GoesOn rules s (Err flaw) Rest = ⊥
+abbrev pub OnKept : {S A : Type 0} → Rules S A → S → Result (Item × Reached) Flaw → (Reached → S → Type 0) → Type 0
+OnKept rules s (Ok next) Rest = rules.agrees s next.0 × Rest next.1 (rules.more s next.0)
+OnKept rules s (Err flaw) Rest = ⊥
 
 -- lines that are ended, each of which means what it must, lead from one state and what was said to another
 abbrev pub LeadTo : {S A : Type 0} → Rules S A → Reached → S → List (List ℕ) → Reached → S → Type 0
 LeadTo rules at s [] later t = (later ≡ at) × (t ≡ s)
 LeadTo rules at s (line ∷ lines) later t =
-    GoesOn rules s (next_at at (line, true)) (λ reached said. LeadTo rules reached said lines later t)
+    OnKept rules s (next_at at (line, true)) (λ reached said. LeadTo rules reached said lines later t)
 
 -- bytes are whole lines, each of which means what it must, and these lead to a state and said this
 pub record AreLines {S A : Type 0} (rules : Rules S A) (bytes : List ℕ) (at : Reached) (s : S) : Type 0 where
@@ -64,10 +64,10 @@ pub record HoldsFlaw {S A : Type 0} (rules : Rules S A) (text : List ℕ) (flaw 
 -- ---- what a call finds
 
 -- the text has come to here, or it holds this flaw, or memory was wanting
-abbrev pub Finds : {S A : Type 0} → Rules S A → List ℕ → Reached → S → List ℕ → Result (Unit {0}) AnswerErr → Type 0
-Finds rules text at s begun (Ok u) = HasCome rules text at s begun
-Finds rules text at s begun (Err (errors.Refused flaw)) = HoldsFlaw rules text flaw
-Finds rules text at s begun (Err errors.Memory) = Unit {0}
+abbrev pub ComesOrFails : {S A : Type 0} → Rules S A → List ℕ → Reached → S → List ℕ → Result (Unit {0}) AnswerErr → Type 0
+ComesOrFails rules text at s begun (Ok u) = HasCome rules text at s begun
+ComesOrFails rules text at s begun (Err (errors.Refused flaw)) = HoldsFlaw rules text flaw
+ComesOrFails rules text at s begun (Err errors.Memory) = Unit {0}
 
 -- the text is refused exactly for its flaw, or memory was wanting
 abbrev pub RefusesExactly : {S A : Type 0} → Rules S A → List ℕ → Result (Unit {0}) AnswerErr → Type 0

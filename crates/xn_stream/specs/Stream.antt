@@ -7,7 +7,7 @@ use Rattle.xn_check.specs.Judge.{IsReady, Kept, graph_kept, rules_of, said_of}
 use Rattle.xn_check.specs.Judging.{Rules}
 use Rattle.xn_check.specs.Said.{Said}
 use Rattle.xn_check.specs.declared.verdicts.Accepted.{Accepted}
-use Rattle.xn_stream.specs.Pieces.{Finds, HasCome, HoldsFlaw, RefusesExactly}
+use Rattle.xn_stream.specs.Pieces.{ComesOrFails, HasCome, HoldsFlaw, RefusesExactly}
 
 -- the judge of the lines so far, which has the graph and the loops, the line that isn't ended, and why it refused
 pub record Stream : Type 0 where
@@ -47,7 +47,7 @@ answer_by (Some e) = Err e
 abbrev pub LeadsOn : Kept → List ℕ → List ℕ → Kept → List ℕ → Result (Unit {0}) AnswerErr → Type 0
 LeadsOn old begun piece new after r =
     (text : List ℕ) → HasCome (rules_of old) text old.at (said_of old) begun →
-    Finds (rules_of old) (text ++ piece) new.at (said_of new) after r
+    ComesOrFails (rules_of old) (text ++ piece) new.at (said_of new) after r
 
 -- it stands for each text that it stood for, with this piece behind; after want of memory for none
 abbrev pub StandsOn : Stream → List ℕ → Stream → Result (Unit {0}) AnswerErr → Type 0

@@ -72,12 +72,42 @@ fn answers_in_pieces(rt: HostRuntime) -> Result<(), Fail> {
     let alloc = rt.alloc();
     assert!(rt; comes_to(alloc, ("", ""), "accepted 1 1\n")?);
     assert!(rt; comes_to(alloc, ("bounds 1 1", "bounds 0 1"), "accepted 0 1\n")?);
-    assert!(rt; comes_to(alloc, ("bounds 1 1", "bounds 1 2"), "refused 38 count 2 1\n")?);
+    assert!(rt;
+        comes_to(
+            alloc,
+            ("bounds 1 1", "bounds 1 2"),
+            "refused 38 count 2 1\n"
+        )?
+    );
     assert!(rt; comes_to(alloc, ("bounds 1 1", "bounds 2 1"), "refused 63 weak 1 1\n")?);
-    assert!(rt; comes_to(alloc, ("graph 5 10", "graph 5 9"), "refused 2 size-differs\n")?);
-    assert!(rt; comes_to(alloc, ("edge 0 1", "edge 1 0"), "refused 4 edge-differs 0\n")?);
-    assert!(rt; comes_to(alloc, ("path 1 0", "path 1 10"), "refused 61 row 0 evidence broken 0\n")?);
-    assert!(rt; comes_to(alloc, ("tree\nleaf 1 1 0 1\nend", "tree\nend"), "refused 63 tree 0\n")?);
+    assert!(rt;
+        comes_to(
+            alloc,
+            ("graph 5 10", "graph 5 9"),
+            "refused 2 size-differs\n"
+        )?
+    );
+    assert!(rt;
+        comes_to(
+            alloc,
+            ("edge 0 1", "edge 1 0"),
+            "refused 4 edge-differs 0\n"
+        )?
+    );
+    assert!(rt;
+        comes_to(
+            alloc,
+            ("path 1 0", "path 1 10"),
+            "refused 61 row 0 evidence broken 0\n"
+        )?
+    );
+    assert!(rt;
+        comes_to(
+            alloc,
+            ("tree\nleaf 1 1 0 1\nend", "tree\nend"),
+            "refused 63 tree 0\n"
+        )?
+    );
     assert!(rt; comes_to(alloc, ("\nend\n", "\nend"), "refused 64 syntax\n")?);
     assert!(rt; comes_to(alloc, ("\nend\n", "\n"), "refused 64 syntax\n")?);
     assert!(rt; comes_to(alloc, ("\nend\n", "\nend\ne"), "refused 65 trailing\n")?);

@@ -9,7 +9,7 @@ use Rattle.xn_model.specs.Map.{MeetsEuler, IsMap, component_count, face_count, f
 use Rattle.xn_model.specs.Permutation.{IsSplice, Permutes, Reaches, count_below, cycle_count}
 use Rattle.xn_ring.specs.Parts.{HasCyclesOfBoth, IsBeside}
 use Rattle.xn_surgery.specs.Overlay.{IsOverlay, ShareNothing, ShareOnly}
-use Rattle.xn_model.proofs.Darts.{reverse_below, tail-even, tail-odd}
+use Rattle.xn_model.proofs.Darts.{EndsIn-both, reverse_below, tail-even, tail-odd}
 use Rattle.xn_ring.proofs.Counting.{count-differs, count-none, count-same}
 use Rattle.xn_ring.proofs.Halves.{has_cycles_of_both}
 use Rattle.xn_ring.proofs.Orbits.{reaches_back, reaches_trans}
@@ -17,7 +17,7 @@ use Rattle.xn_ring.proofs.Splice.{Permutes-splice, cycle_count-joined, joined, k
 use Rattle.xn_genus.proofs.Compress.{tail_in}
 use Rattle.xn_genus.proofs.Counts.{IsSplice-face, Permutes-face}
 use Rattle.xn_genus.proofs.Lone.{no_dart_if_lone}
-use Rattle.xn_surgery.proofs.OverlayComponents.{EndsIn-both, EndsPass, components_add, reverse-beyond, tail-left, tail-right}
+use Rattle.xn_surgery.proofs.OverlayComponents.{EndsPass, components_add, reverse-beyond, tail-left, tail-right}
 
 -- how the nodes without darts add up
 lone_add : (n : ℕ) (p q : ℕ → Bool) → count_below n p + count_below n q + count_below n (λ v. not (p v) && not (q v)) ≡ count_below n (λ v. p v && q v) + n

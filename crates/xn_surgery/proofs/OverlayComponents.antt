@@ -12,6 +12,7 @@ use Rattle.xn_genus.proofs.Compress.{tail_in}
 use Rattle.xn_genus.proofs.Counts.{no_segments}
 use Rattle.xn_genus.proofs.Lone.{no_dart_if_lone}
 use Rattle.xn_genus.proofs.Pushed.{component_count-push_apart, component_count-push_same}
+pub use Rattle.xn_model.proofs.Darts.{EndsIn-both}
 
 -- the tails of two lists of segments, one after the other
 pub tail-left : (xs ys : List (ℕ × ℕ)) (d : ℕ) → d < 2 * length xs → tail_of (xs ++ ys) d ≡ tail_of xs d
@@ -72,10 +73,6 @@ tail_passes busy ys h d d_in =
 EndsPass-front : (busy : ℕ → Bool) (ys : List (ℕ × ℕ)) (p : ℕ × ℕ) → EndsPass busy (ys ++ p ∷ []) → EndsPass busy ys × (busy p.0 ≡ true) × (busy p.1 ≡ true)
 EndsPass-front busy [] p h = (tt, h.0, h.1)
 EndsPass-front busy (q ∷ ys) p h = let rest = EndsPass-front busy ys p h.2 in ((h.0, h.1, rest.0), rest.1, rest.2)
-
-pub EndsIn-both : (nodes : ℕ) (xs ys : List (ℕ × ℕ)) → EndsIn nodes xs → EndsIn nodes ys → EndsIn nodes (xs ++ ys)
-EndsIn-both nodes [] ys one two = two
-EndsIn-both nodes (p ∷ xs) ys one two = (one.0, one.1, EndsIn-both nodes xs ys one.2 two)
 
 -- a walk of the later segments is one of all
 joined_right : (xs ys : List (ℕ × ℕ)) (u v : ℕ) (darts : List ℕ) → WalksTo ys u darts v → Joined (xs ++ ys) u v

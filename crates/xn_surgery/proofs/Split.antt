@@ -6,9 +6,10 @@ use Rattle.xn_model.specs.Lists.{one_if}
 use Rattle.xn_model.specs.Map.{MeetsEuler, IsMap, Joined, component_count, face_count, face_step, is_lone, reverse_of, tail_of}
 use Rattle.xn_model.specs.Permutation.{IsSplice, Permutes, Reaches, count_below, cycle_count, iterate}
 use Rattle.xn_ring.specs.Swaps.{CutsRing}
+use Rattle.xn_model.proofs.Tests.{same_tests}
 use Rattle.xn_surgery.specs.Splitting.{InArc, IsSplit}
 use Rattle.xn_model.proofs.Darts.{reverse-reverse, reverse_apart, reverse_below}
-use Rattle.xn_ring.proofs.Counting.{count-same, same_tests}
+use Rattle.xn_ring.proofs.Counting.{count-same}
 use Rattle.xn_ring.proofs.Orbits.{cases_reaches, first_below, reaches_back, reaches_step, reaches_trans, within}
 use Rattle.xn_ring.proofs.Splice.{Permutes-splice, cycle_count-joined, cycle_count-split, walk-others}
 use Rattle.xn_ring.proofs.SplitRing.{cuts_ring}

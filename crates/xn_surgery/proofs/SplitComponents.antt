@@ -8,10 +8,6 @@ use Rattle.xn_model.proofs.Darts.{cases_dart, reverse-even, reverse-odd, reverse
 use Rattle.xn_genus.proofs.ComponentTransfer.{component_count-transfer}
 use Rattle.xn_genus.proofs.Pushed.{component_count-push_same, component_count-push_apart}
 
--- each dart keeps its node, or goes from v to the new node
-pub MovesFrom : ℕ → ℕ → List (ℕ × ℕ) → List (ℕ × ℕ) → Type 0
-MovesFrom nodes v ends ends' = (d : ℕ) → d < 2 * length ends → (tail_of ends' d ≡ tail_of ends d) ⊎ ((tail_of ends d ≡ v) × (tail_of ends' d ≡ nodes))
-
 module _ (nodes v : ℕ) (ends ends' : List (ℕ × ℕ)) (ends_in : EndsIn nodes ends) (ends_in' : EndsIn (suc nodes) ends') (both_in : EndsIn (suc nodes) (ends' ++ (v, nodes) ∷ []))
     (v_in : v < nodes) (same_length : length ends' ≡ length ends) (tail_in : (d : ℕ) → d < 2 * length ends → tail_of ends d < nodes)
     (moves : (d : ℕ) → d < 2 * length ends → (tail_of ends' d ≡ tail_of ends d) ⊎ ((tail_of ends d ≡ v) × (tail_of ends' d ≡ nodes))) where

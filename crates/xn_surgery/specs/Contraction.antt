@@ -9,7 +9,8 @@ abbrev pub along_chain : (ℕ → ℕ) → (ℕ → ℕ) → ℕ → ℕ → ℕ
 along_chain next start j i = iterate (face_step next) i (start j)
 
 -- dart j of the contracted web stands for the chain of steps j + 1 darts from start j on, and its node w is the node called node w
-pub record IsContraction (nodes : ℕ) (ends : List (ℕ × ℕ)) (next : ℕ → ℕ) (left_nodes : ℕ) (left : List (ℕ × ℕ)) (after start steps node : ℕ → ℕ) : Type 0 where
+pub record IsContraction (nodes : ℕ) (ends : List (ℕ × ℕ)) (next : ℕ → ℕ) (left_nodes : ℕ)
+    (left : List (ℕ × ℕ)) (after start steps node : ℕ → ℕ) : Type 0 where
   pub ends_in : EndsIn left_nodes left
   pub starts_in : (j : ℕ) → j < 2 * length left → start j < 2 * length ends
   pub below : (j : ℕ) → j < 2 * length left → after j < 2 * length left

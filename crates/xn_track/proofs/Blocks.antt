@@ -6,8 +6,7 @@ use Rattle.std.proofs.lemmas.Bool.{both_ways, cases_eq, cases_lt, cond-true, con
 use Rattle.std.proofs.lemmas.List.{get_or_append_left}
 use Rattle.xn_model.specs.Lists.{has}
 use Rattle.xn_model.specs.Web.{first_segment}
-use Rattle.xn_fewer.proofs.Has.{has-first, has-later}
-use Rattle.xn_track.proofs.Places.{all_not}
+use Rattle.xn_model.proofs.Has.{all_not, has-first, has-later}
 
 -- where the list of e begins
 abbrev pub place : (ℕ → ℕ) → List ℕ → ℕ → ℕ

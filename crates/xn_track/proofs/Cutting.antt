@@ -5,12 +5,13 @@ use Rattle.xn_model.specs.Map.{MeetsEuler, IsMap, face_step, is_lone, reverse_of
 use Rattle.xn_model.specs.Permutation.{count_below, iterate}
 use Rattle.xn_surgery.specs.Contraction.{IsContraction, along_chain}
 use Rattle.xn_model.proofs.Darts.{cases_dart, reverse-even, reverse-odd, reverse_below}
-use Rattle.xn_ring.proofs.Counting.{count-all, count-parts, count_injects}
+use Rattle.xn_ring.proofs.Counting.{count-all, count_injects}
 use Rattle.xn_genus.proofs.Compress.{tail_in}
 use Rattle.xn_genus.proofs.Lone.{dart_if_not_lone}
 use Rattle.xn_genus.proofs.Part.{index, index_is}
 use Rattle.xn_genus.proofs.Tests.{some_below, some_below-from, some_below-to}
 use Rattle.xn_surgery.proofs.Contract.{components_left, faces_left, map_left}
+use Rattle.xn_model.proofs.Counts.{count-not}
 use Rattle.xn_track.specs.Cutting.{CuttingLeavesAMap, IsCutting, TurnsAsRuns, run_dart}
 
 pub run_even : (first last : ℕ → ℕ) (j : ℕ) → run_dart first last (2 * j) ≡ 2 * first j
@@ -24,10 +25,6 @@ run_odd first last j =
     let bit : (2 * j + 1) % 2 ≢ 0 = λ e. omega arith in
     let half : (2 * j + 1) / 2 ≡ j = omega arith in
     cond-false _ _ _ (ne_eqb _ _ bit) ∙ ap (λ i. 2 * last i + 1) half
-
--- the numbers that pass a test and those that don't
-count_both : (n : ℕ) (p : ℕ → Bool) → count_below n p + count_below n (λ x. not (p x)) ≡ n
-count_both n p = let all = count-all n in let parts = count-parts n (λ x. true) p in omega (arith, all, parts)
 
 module _ (nodes left_nodes : ℕ) (ends left : List (ℕ × ℕ)) (next first last node : ℕ → ℕ) (map : IsMap nodes ends next)
     (is : IsCutting nodes ends next left_nodes left first last node) where
@@ -418,8 +415,8 @@ module _ (nodes left_nodes : ℕ) (ends left : List (ℕ × ℕ)) (next first la
 
   as_many : left_nodes + length ends ≡ nodes + m
   as_many =
-      let segments = count_both (length ends) begins in
-      let points = count_both nodes kept in
+      let segments = count-not (length ends) begins in
+      let points = count-not nodes kept in
       omega (arith, segments, points, begin_count, kept_count, inner_count)
 
   contraction : IsContraction nodes ends next left_nodes left after start steps node

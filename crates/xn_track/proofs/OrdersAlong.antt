@@ -7,12 +7,13 @@ use Rattle.xn_model.specs.Graph.{Graph, IsGraph}
 use Rattle.xn_model.specs.Lists.{at, has}
 use Rattle.xn_model.specs.Orders.{IsOrders}
 use Rattle.xn_fewer.proofs.Crossings.{IsCross}
-use Rattle.xn_fewer.proofs.Has.{has-first, has-kept, has-later, has-map, has-picked}
+use Rattle.xn_fewer.proofs.Has.{has-kept, has-map, has-picked}
 use Rattle.xn_fewer.proofs.Rising.{Rising, all_made, rising-from_increasing}
+use Rattle.xn_model.proofs.Has.{all_not, any_from, has-first, has-later, place_of}
 use Rattle.xn_track.specs.Tidying.{first_passing, is_met, is_other, order_along, other_at}
 use Rattle.xn_track.specs.Track.{IsTrack, MeetSimply, passed}
 use Rattle.xn_track.proofs.Blocks.{blocks_apart}
-use Rattle.xn_track.proofs.Places.{all_not, any_from, has-mapped, place_of}
+use Rattle.xn_track.proofs.Places.{has-mapped}
 use Rattle.xn_track.proofs.Passes.{Gap, begin, size_is, two_gaps}
 
 pub first_passing_is : (p : ℕ → Bool) (xs : List ℕ) → list_any p xs ≡ true → (has xs (first_passing p xs) ≡ true) × (p (first_passing p xs) ≡ true)

@@ -16,7 +16,8 @@ use Rattle.xn_genus.proofs.Counts.{stays_alone}
 use Rattle.xn_genus.proofs.Kept.{EndsIn_at}
 use Rattle.xn_genus.proofs.Listed.{part_along}
 use Rattle.xn_genus.proofs.Part.{flat_of_part, map_of_part, passes_over}
-use Rattle.xn_fewer.proofs.Rising.{distinct-rising, has-all, rising-from_increasing}
+use Rattle.xn_fewer.proofs.Rising.{distinct-rising, rising-from_increasing}
+use Rattle.xn_model.proofs.Has.{has-all}
 use Rattle.xn_track.specs.Track.{GoesOn, IsTrack, passed, straight_on}
 use Rattle.xn_track.proofs.Blocks.{at_place, found_at, place, place_in, size_of}
 

@@ -1,18 +1,17 @@
 -- The runs of all walks, the ends of a web's segments, and nodes without darts that go.
-use Rattle.std.proofs.Common.{◌≡◌, ◌≢◌, ℕ, zero, suc, ◌+◌, ◌*◌, ◌<◌, ◌≤◌, inl, inr, true, false, eqb, List, [], ◌∷◌, length, map, refl, sym, ◌∙◌, ap, subst, arith, length-append}
+use Rattle.std.proofs.Common.{◌≡◌, ◌≢◌, ℕ, zero, suc, ◌+◌, ◌*◌, ◌<◌, ◌≤◌, true, List, [], ◌∷◌, length, map, refl, sym, ◌∙◌, ap, subst, arith, length-append}
 use Rattle.std.specs.List.{IsDistinct, flat_map, range_with_len}
 use Rattle.std.specs.Prelude.{nat_eq}
-use Rattle.std.proofs.lemmas.Bool.{both_ways, cases_eq, cond-true, cond-false, eq-eqb, ne_eqb, or_cases, eqb-true}
+use Rattle.std.proofs.lemmas.Bool.{cond-false, ne_eqb}
 use Rattle.std.proofs.lemmas.List.FromFn.{length-range_with_len, get_or-range_with_len}
 use Rattle.xn_model.specs.Graph.{EndsIn}
-use Rattle.xn_model.specs.Lists.{at, has, position_in}
+use Rattle.xn_model.specs.Lists.{at, has}
 use Rattle.xn_model.specs.Map.{MeetsEuler, IsMap, tail_of}
 use Rattle.xn_genus.specs.Renumbering.{IsNodeRemoval}
 use Rattle.xn_genus.proofs.Compress.{tail_in}
 use Rattle.xn_genus.proofs.Nodes.{components_fewer, faces_fewer, lone_from, map_fewer}
-use Rattle.xn_fewer.proofs.Has.{has-first, has-later}
+use Rattle.xn_model.proofs.Has.{all_not, has-at, has-first, has-later}
 use Rattle.xn_track.proofs.Blocks.{place, place_here, place_past, size_of}
-use Rattle.xn_track.proofs.Places.{all_not, has-at}
 use Rattle.xn_track.proofs.Runs.{Chained, Match, chained-append, match-append}
 
 pub chained_all : (P : ℕ → Type 0) (walks : ℕ → List ℕ) (f : ℕ → List (ℕ × ℕ)) (es : List ℕ) → IsDistinct nat_eq es → (o end : ℕ) → end ≡ o + length (flat_map walks es) →
@@ -72,16 +71,6 @@ used_alone used (suc k) ends next ends_in map flat =
     used_alone used k ends next ends_in (map_fewer rest rest ends ends next wide goes) (omega (arith, wide_flat, faces, components))
 
 -- ---- positions
-
-pub position_below : (xs : List ℕ) (y : ℕ) → has xs y ≡ true → position_in xs y < length xs
-position_below [] y h = absurd (both_ways false refl h)
-position_below (x ∷ xs) y h = elim (cases_eq x y) [
-  | inl here ↦ let is : position_in (x ∷ xs) y ≡ 0 = cond-true _ _ _ (eq-eqb x y here) in omega (arith, is)
-  | inr past ↦
-      let is : position_in (x ∷ xs) y ≡ suc (position_in xs y) = cond-false _ _ _ (ne_eqb x y past) in
-      let rest = position_below xs y (elim (or_cases (eqb x y) (has xs y) h) [ inl here ↦ absurd (past (eqb-true x y here)) | inr later ↦ later ]) in
-      omega (arith, is, rest)
-]
 
 pub has-range : (n v : ℕ) → v < n → has (range_with_len 0 n) v ≡ true
 has-range n v v_in =

@@ -5,17 +5,12 @@ use Rattle.xn_model.specs.Graph.{Graph}
 use Rattle.xn_model.specs.Lists.{at}
 use Rattle.xn_model.specs.Map.{reverse_of, tail_of}
 use Rattle.xn_model.specs.Permutation.{iterate}
-use Rattle.xn_model.proofs.Darts.{cases_dart, reverse-even, reverse-odd, reverse_apart}
+use Rattle.xn_model.proofs.Darts.{reverse_apart}
 use Rattle.xn_genus.proofs.Compress.{half_reverse}
+pub use Rattle.xn_model.proofs.Darts.{reverse_other}
 use Rattle.xn_track.specs.Relinking.{IsRelinked, PassesTo, MayBeRelinked}
 use Rattle.xn_track.specs.Track.{IsGround}
 use Rattle.xn_track.proofs.Relink.{at_node}
-
-pub reverse_other : (d : ℕ) → reverse_of d ≢ d
-reverse_other d same = let c = cases_dart d in elim c.1 [
-  | inl even ↦ omega (arith, ap reverse_of even, reverse-even c.0, same, even)
-  | inr odd ↦ omega (arith, ap reverse_of odd, reverse-odd c.0, same, odd)
-]
 
 -- the walks ds, of which the positions p and q pass one node
 pub record TwoPasses (nodes : ℕ) (web : Graph) (next : ℕ → ℕ) (four : ℕ → Bool) (ds : List ℕ) (p q : ℕ) : Type 0 where

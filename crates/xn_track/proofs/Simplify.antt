@@ -9,14 +9,13 @@ use Rattle.xn_model.specs.Lists.{at, has}
 use Rattle.xn_model.specs.Map.{tail_of}
 use Rattle.xn_model.specs.Orders.{crossing_count}
 use Rattle.xn_model.specs.Permutation.{count_below}
-use Rattle.xn_fewer.proofs.Has.{has-first, has-later}
 use Rattle.xn_fewer.proofs.Rising.{all_made}
+use Rattle.xn_model.proofs.Has.{has-first, has-later, place_of}
 use Rattle.xn_track.specs.Relinking.{PassesTo}
 use Rattle.xn_track.specs.Simplifying.{LooseDrawingsGiveDrawings, LooseDrawingsGiveSimpleOnes, TracksGiveDrawings}
 use Rattle.xn_track.specs.Steps.{IsDoubleStep, IsStep, end_from, node_after, turned_walk}
 use Rattle.xn_track.specs.Tidying.{HasDrawingOf, order_along}
 use Rattle.xn_track.specs.Track.{IsGround, IsTrack, MeetSimply, passed}
-use Rattle.xn_track.proofs.Places.{place_of}
 use Rattle.xn_track.proofs.Loose.{loose_drawings_are_tracks}
 use Rattle.xn_track.proofs.Passes.{passed_at, size_is}
 use Rattle.xn_track.proofs.Paths.{at-reverse_walk, length-reverse_walk, path_seam}

@@ -5,9 +5,8 @@ use Rattle.std.specs.Prelude.{nat_eq}
 use Rattle.std.proofs.lemmas.Bool.{both_ways, cases_eq, cond-true, cond-false, eq-eqb, ne_eqb}
 use Rattle.xn_model.specs.Lists.{has, total}
 use Rattle.xn_model.specs.Loose.{times_walked}
-use Rattle.xn_fewer.proofs.Has.{has-first, has-later}
+use Rattle.xn_model.proofs.Has.{all_not, has-first, has-later}
 use Rattle.xn_track.proofs.Blocks.{later_in}
-use Rattle.xn_track.proofs.Places.{all_not}
 use Rattle.xn_track.proofs.Paths.{times-append}
 
 pub times-flat_map : (s : ℕ) (walks : ℕ → List ℕ) (es : List ℕ) → times_walked s (flat_map walks es) ≡ total (λ e. times_walked s (walks e)) es

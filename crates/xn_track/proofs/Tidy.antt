@@ -20,16 +20,17 @@ use Rattle.xn_fewer.proofs.Fewer.{ends-flat_map, ends-through}
 use Rattle.xn_fewer.proofs.Crossings.{crossing_at, crossings_apart, node_facts}
 use Rattle.xn_fewer.proofs.Has.{has-kept, has-picked}
 use Rattle.xn_fewer.proofs.Rising.{Rising, distinct-rising, rises-filter, rising-from_increasing}
+use Rattle.xn_model.proofs.Has.{has-at, place_of, position_below}
 use Rattle.xn_track.specs.Cutting.{IsCutting, TurnsAsRuns, run_dart}
 use Rattle.xn_track.specs.Tidying.{IsDrawingOfEdges, TracksThatMeetSimplyAreDrawings}
 use Rattle.xn_track.specs.Track.{IsTrack, MeetSimply, passed}
 use Rattle.xn_track.proofs.Blocks.{at_place, place, place-first_segment, place-same, place_in, size_of}
 use Rattle.xn_track.proofs.Cutting.{cutting_leaves_a_map, run_even, run_odd}
-use Rattle.xn_track.proofs.Places.{has-at, place_of, positions_apart}
+use Rattle.xn_track.proofs.Places.{positions_apart}
 use Rattle.xn_track.proofs.OrdersAlong.{BothMeet, Cross, Seam, cross_from, in_ord, make_gap, meeting, meeting_both, meeting_is, met, met_from, no_third, ord, ord_is, orders, other, other_meets, rising, starts_apart, turned, two_seams}
 use Rattle.xn_track.proofs.Passes.{begin, ends_below, gap_high, gap_in, one_gap, part, part_flat, part_map, part_size, part_tails, size_is, track_first, track_last, turn, two_gaps}
 use Rattle.xn_track.proofs.Runs.{Chained, Match, chained_apart, chained_at, chained_covers, chained_runs, match-length, match_at, match_runs, runs-length, runs_from, runs_seams}
-use Rattle.xn_track.proofs.RunsOfAll.{chained_all, ends-more, has-range, map-map, match_all, position_below, used_alone}
+use Rattle.xn_track.proofs.RunsOfAll.{chained_all, ends-more, has-range, map-map, match_all, used_alone}
 
 module _ (g : Graph) (edges : List ℕ) (web : Graph) (next : ℕ → ℕ) (four : ℕ → Bool) (walks : ℕ → List ℕ) (is_graph : IsGraph g)
     (track : IsTrack g edges web next four walks) (meet : MeetSimply g edges web.ends walks) where

@@ -1,8 +1,8 @@
 use super::texts::{K5, K5_GRAPH};
 use super::*;
 
-// What `check` of K5 writes, and with which code it ends, where the call of the input with this number fails, if one does,
-// and the write with that one.
+// What `check` of K5 writes, and with which code it ends, where the call of the input with this number fails, if one
+// does, and the write with that one.
 fn checked_with(
     alloc: Global,
     read: Option<u64>,

@@ -1,11 +1,11 @@
 // Calls that change a map.
-ghost use Rattle.std.specs.Prelude.{◌≡◌, ◌≢◌, ◌/◌, ◌+◌, ◌*◌, ◌^◌, ◌<◌, ◌≤◌, ◌⊎◌, IfOk, OnErr, OnOk, length};
+ghost use Rattle.std.specs.Prelude.{◌≡◌, ◌≢◌, ◌/◌, ◌+◌, ◌*◌, ◌^◌, ◌<◌, ◌⊎◌, IfOk, OnErr, OnOk, length};
 ghost use Rattle.xn_model.specs.Lists.{at};
 ghost use Rattle.xn_model.specs.Map.{Joined};
 ghost use Rattle.xn_model.specs.Permutation.{Permutes};
 ghost use Rattle.xn_graph.specs.Limits.{graph_of};
 ghost use Rattle.xn_map.specs.Anchored.{OutlastsAt};
-ghost use Rattle.xn_map.specs.Changes.{Deletes, Inserts, IsFilled, IsFreeCorner, IsOut, Stands, StaysFlat, TakesOut, TakesPlace, node_of};
+ghost use Rattle.xn_map.specs.Changes.{Deletes, Inserts, IsFilled, IsFreeCorner, IsOut, Stands, StaysFlat, TakesDartOut, TakesPlace, node_of};
 ghost use Rattle.xn_map.specs.Corners.{InOneFace, IsCorner};
 ghost use Rattle.xn_map.specs.Listed.{IsListedMap, map_of};
 
@@ -115,7 +115,7 @@ fn stand(rings: &mut Rings, corner: Corner, z: u32)
 pub fn take_out(rings: &mut Rings, d: u32)
     requires dart { d < length rings.old }
     requires permutes { Permutes (length rings.old) (at rings.old) }
-    ensures { TakesOut d rings.old rings.new }
+    ensures { TakesDartOut d rings.old rings.new }
 {
     let before = rings.prev(d);
     rings.splice(before, d);

@@ -2,8 +2,6 @@ use Rattle.std.proofs.Common.{◌≡◌, ◌⊎◌, IfSome, rules}
 use Rattle.xn_command.specs.Gives.{request_of_command, words_request}
 use Rattle.xn_command.specs.Request.{check, draw, examine}
 use Rattle.xn_app.specs.Ends.{Finishes}
-use Rattle.xn_app.specs.Files.{IsInMemory, answer_of}
-use Rattle.xn_io.specs.Input.{bytes_of}
 use Rattle.xn_app.specs.Outcome.{ComesTo, Outcome}
 use Rattle.xn_app.specs.Status.{IsAside, IsVerdictEnd}
 use Rattle.xn_app.proofs.Ends.{asked_is, asked_same, never_words, ran_on}
@@ -65,8 +63,7 @@ returns-in-Ok-work-clause-drawing g c =
     let finishes : Finishes status output old new before after end = search rules in
     let comes : IfSome told (λ files. ComesTo files r (status, output)) = search rules in
     let ran = ran_on told r status output old new before after end judged finishes comes in
-    let short : IfSome told (λ files. IsInMemory (bytes_of files (answer_of r))) = search rules in
-    examined_done c.seen_texts.ensures told answer r end old new (asked_same (words_request c.args.words.now) r (examine answer) c.in-Ok.ensures asks) done short ran
+    examined_done c.seen_texts.ensures told answer r end old new (asked_same (words_request c.args.words.now) r (examine answer) c.in-Ok.ensures asks) done ran
 
 pub returns-in-Ok-work-clause-shown : goal.returns-in-Ok-work-clause-shown
 returns-in-Ok-work-clause-shown g c =
@@ -84,5 +81,4 @@ returns-in-Ok-work-clause-shown g c =
     let finishes : Finishes status output old new before after end = search rules in
     let comes : IfSome told (λ files. ComesTo files r (status, output)) = search rules in
     let ran = ran_on told r status output old new before after end judged finishes comes in
-    let short : IfSome told (λ files. IsInMemory (bytes_of files (answer_of r))) = search rules in
-    drawn_done c.drawn_texts.ensures told graph answer r end old new (asked_same (words_request c.args.words.now) r (draw graph answer) c.in-Ok.ensures asks) done short ran
+    drawn_done c.drawn_texts.ensures told graph answer r end old new (asked_same (words_request c.args.words.now) r (draw graph answer) c.in-Ok.ensures asks) done ran

@@ -1,5 +1,5 @@
 use Rattle.std.proofs.Common.{◌∙◌, ap, arith, min, subst, sym, ℕ}
-use Rattle.xn_euler.proofs.Resolving.{IsLeastAt, least_at}
+use Rattle.xn_euler.proofs.Rounds.{IsLeastAt, least_at}
 use Rattle.xn_euler.proofs.resolution.least_dart.Goals as goal
 use Rattle.xn_euler.proofs.resolution.least_dart.Goals.{After-min-3}
 

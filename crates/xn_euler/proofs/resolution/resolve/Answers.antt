@@ -1,7 +1,8 @@
 use Rattle.std.proofs.Common.{ℕ, sym, subst}
 use Rattle.xn_map.specs.Passing.{HasTwoDarts, Smooths}
 use Rattle.xn_euler.specs.Resolving.{Resolves}
-use Rattle.xn_euler.proofs.Resolving.{cut_allowed, new_two, old_two, resolved_flat, resolves}
+use Rattle.xn_euler.proofs.Resolving.{new_two, old_two, resolved_flat, resolves}
+use Rattle.xn_euler.proofs.Rounds.{cut_allowed}
 use Rattle.xn_euler.proofs.resolution.resolve.Goals as goal
 use Rattle.xn_euler.proofs.resolution.resolve.Goals.{After-pass_node-2}
 

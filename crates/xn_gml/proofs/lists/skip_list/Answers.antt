@@ -1,5 +1,5 @@
 use Rattle.std.proofs.Common.{ap, ◌∙◌, arith, length}
-use Rattle.xn_gml.specs.Lists.{pairs_from}
+use Rattle.xn_gml.specs.Lists.{listed_pairs_from}
 use Rattle.xn_gml.proofs.PairSteps.{passes, no_pairs}
 use Rattle.xn_gml.proofs.lists.skip_list.Goals as goal
 
@@ -11,7 +11,7 @@ pub loop-depth-preserved : goal.loop-depth-preserved
 loop-depth-preserved c =
     let one_less = ap length c.in-Some.ensures.some in
     record {
-      same = ap (λ n. pairs_from n c.next.new.self) c.opened-depth.ensures.value
+      same = ap (λ n. listed_pairs_from n c.next.new.self) c.opened-depth.ensures.value
           ∙ passes c.loop-depth.depth c.loop-depth.tokens c.next.new.self c.in-Some.token c.loop-depth-test.true c.in-Some.ensures.some
           ∙ c.loop-depth.invariant.same;
       few = omega (arith, c.opened-depth.ensures.few, one_less);

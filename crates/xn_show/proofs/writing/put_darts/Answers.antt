@@ -1,9 +1,10 @@
 use Rattle.std.proofs.Common.{◌∷◌, [], ◌++◌, ◌∙◌, sym, ap}
 use Rattle.xn_model.specs.Lists.{at}
 use Rattle.xn_model.specs.Permutation.{walk}
+use Rattle.xn_model.proofs.Decide.{length-walk}
 use Rattle.xn_show.specs.Text.{spaced}
 use Rattle.xn_show.proofs.Appended.{spaced_more}
-use Rattle.xn_show.proofs.TurnSteps.{iterate_more, length-walk, walk_more}
+use Rattle.xn_show.proofs.TurnSteps.{iterate_more, walk_more}
 use Rattle.xn_show.proofs.writing.put_darts.Goals as goal
 
 pub loop-i-preserved : goal.loop-i-preserved

@@ -4,7 +4,7 @@ use Rattle.xn_model.specs.Lists.{at}
 use Rattle.xn_model.specs.Map.{reverse_of, tail_of}
 use Rattle.xn_model.proofs.Darts.{reverse_below}
 use Rattle.xn_graph.proofs.DartsOf.{darts_of-at}
-use Rattle.xn_blocks.specs.Growth.{GoesOnAt, far_end, lists_in, with_dart}
+use Rattle.xn_blocks.specs.Growth.{GoesOnAt, far_end_at, lists_in, with_dart}
 use Rattle.xn_blocks.proofs.Growing.{few}
 use Rattle.xn_blocks.proofs.SearchSteps.{few_darts, goes_down, goes_past}
 use Rattle.xn_blocks.proofs.forest.Forest.try_dart.Goals as goal
@@ -24,7 +24,7 @@ returns-then-index-nodes c =
     let v = c.args.v in
     let s = lists_in c.args.self.now in
     let w = c.tail-w.result in
-    let w_is : w ≡ far_end web v (at s.next v) = c.tail-w.ensures.value ∙ ap (λ x. tail_of web.ends (reverse_of x)) c.requires.dart in
+    let w_is : w ≡ far_end_at web v (at s.next v) = c.tail-w.ensures.value ∙ ap (λ x. tail_of web.ends (reverse_of x)) c.requires.dart in
     let num : c.index.result.now ≡ at s.number w = get_or_read s.number w _ (omega (arith, c.tail-w.ensures.node, c.requires.here.found.numbers)) c.index.ensures 0 in
     let small : at s.number w < web.nodes = omega (arith, num, c.if-index-nodes.true, c.nodes.ensures.value) in
     let far = subst (λ z. (z < web.nodes) × (at s.number z < web.nodes)) w_is (c.tail-w.ensures.node, small) in
@@ -48,7 +48,7 @@ returns c =
     let v = c.args.v in
     let s = lists_in c.args.self.now in
     let w = c.tail-w.result in
-    let w_is : w ≡ far_end web v (at s.next v) = c.tail-w.ensures.value ∙ ap (λ x. tail_of web.ends (reverse_of x)) c.requires.dart in
+    let w_is : w ≡ far_end_at web v (at s.next v) = c.tail-w.ensures.value ∙ ap (λ x. tail_of web.ends (reverse_of x)) c.requires.dart in
     let num : c.index.result.now ≡ at s.number w = get_or_read s.number w _ (omega (arith, c.tail-w.ensures.node, c.requires.here.found.numbers)) c.index.ensures 0 in
     let new : web.nodes ≤ at s.number w = omega (arith, num, c.if-index-nodes.false, c.nodes.ensures.value) in
     let on = goes_down web s v c.requires.here w c.requires.more w_is c.tail-w.ensures.node new in

@@ -1,7 +1,7 @@
 use Rattle.std.proofs.Common.{◌≡◌, ◌++◌, ap, sym, subst, ◌∙◌, rules}
 use Rattle.std.specs.Prelude.{None}
 use Rattle.xn_check.specs.Judge.{said_of}
-use Rattle.xn_stream.specs.Pieces.{Finds, HasCome}
+use Rattle.xn_stream.specs.Pieces.{ComesOrFails, HasCome}
 use Rattle.xn_stream.specs.Stream.{Stream, rules_in}
 use Rattle.xn_stream.proofs.Said.{open_exactly, refused_exactly, refused_more}
 use Rattle.xn_stream.proofs.stream.StreamCheck.feed.Goals as goal
@@ -25,5 +25,5 @@ returns-clause-exactly c =
     c.take-result.new.begun.items c.take-result.result
     (subst
     (λ (v : Stream). HasCome (rules_in v) text v.judge.at (said_of v.judge) v.begun →
-    Finds (rules_in v) (text ++ c.args.piece.now) c.take-result.new.judge.at (said_of c.take-result.new.judge) c.take-result.new.begun.items
+    ComesOrFails (rules_in v) (text ++ c.args.piece.now) c.take-result.new.judge.at (said_of c.take-result.new.judge) c.take-result.new.begun.items
     c.take-result.result) c.self.view_is (c.take-result.ensures.finds text))

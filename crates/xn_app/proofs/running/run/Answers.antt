@@ -1,0 +1,31 @@
+use Rattle.std.proofs.Common.{sym, ◌∙◌}
+use Rattle.xn_app.proofs.Lines.{zero_is_done}
+use Rattle.xn_app.proofs.running.run.Goals as goal
+
+pub returns-clause-exits : goal.returns-clause-exits
+returns-clause-exits g c =
+    let top = c.top-end.ensures in
+    record {
+      end = c.top-end.result;
+      ends = record {
+        no_words = top.no_words;
+        words = top.words;
+        ran = top.ran;
+        exact = top.exact;
+        bounds = top.bounds;
+        drawing = top.drawing;
+        shown = top.shown;
+        shows = top.shows;
+        begun = top.begun;
+        last = top.last;
+        write = top.write;
+        untouched = top.untouched;
+      };
+      code_is = c.tell.ensures.code;
+      says = c.tell.ensures.says;
+    }
+
+pub returns-clause-bounds : goal.returns-clause-bounds
+returns-clause-bounds g c =
+    λ graph answer asks zero.
+    c.top-end.ensures.bounds graph answer asks (zero_is_done c.top-end.result (sym zero ∙ c.tell.ensures.code))

@@ -1,0 +1,26 @@
+use Rattle.std.proofs.Common.{refl, rules}
+use Rattle.xn_app.specs.Status.{IsSilent}
+use Rattle.xn_app.proofs.Lines.{never_write}
+use Rattle.xn_app.proofs.system.ended.Goals as goal
+
+pub returns-in-Ok : goal.returns-in-Ok
+returns-in-Ok g c =
+    let exits = c.run.ensures.exits in
+    record {
+      end = exits.end;
+      code_is = exits.code_is;
+      says = exits.says;
+      write = exits.ends.write;
+      untouched = exits.ends.untouched;
+    }
+
+pub returns-in-Err : goal.returns-in-Err
+returns-in-Err g c =
+    let silent : IsSilent c.in-Err.end = search rules in
+    record {
+      end = c.in-Err.end;
+      code_is = c.tell.ensures.code;
+      says = c.tell.ensures.says;
+      write = λ writes. absurd (never_write c.in-Err.end silent writes);
+      untouched = λ quiet. (refl, refl);
+    }

@@ -1,0 +1,4 @@
+pub mod Named
+pub mod Rising
+pub mod Dropped
+pub mod Halving

@@ -1,0 +1,5 @@
+mod Counted
+mod Lists
+mod Planned
+mod Shown
+mod Standing

@@ -1,0 +1,6 @@
+mod Answered
+mod Asked
+mod Crossless
+mod Opened
+mod Pushed
+mod Searching

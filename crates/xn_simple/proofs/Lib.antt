@@ -1,0 +1,9 @@
+pub mod Agreeing
+pub mod Answered
+pub mod Apart
+pub mod Drawn
+pub mod Listed
+pub mod Lists
+pub mod Loosened
+pub mod Steps
+pub mod WalksApart

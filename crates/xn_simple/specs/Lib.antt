@@ -1,0 +1,4 @@
+pub mod Crossed
+pub mod Loosened
+pub mod Turning
+pub mod Untouched

@@ -1,0 +1,6 @@
+mod Counting
+mod Inverse
+mod Positions
+mod Renumbering
+mod Rising
+mod Sorting

@@ -1,0 +1,2 @@
+pub mod FirstUse
+pub mod Numbering
