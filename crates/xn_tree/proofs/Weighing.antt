@@ -7,7 +7,7 @@ use Rattle.xn_model.specs.Graph.{Graph, Independent}
 use Rattle.xn_kinds.specs.Row.{Values}
 use Rattle.xn_kinds.specs.State.{State, InBox}
 use Rattle.xn_tree.specs.Least.{Allows, IsChange, Moves, Weighs, with_cross}
-use Rattle.xn_tree.specs.Scale.{PairsWeigh, Table, TermsMove, of_two, pair_given, takes_of, term_at, with_term}
+use Rattle.xn_tree.specs.Scale.{OneBound, PairsWeigh, Table, TermsMove, of_two, pair_given, takes_of, term_at, with_term}
 use Rattle.xn_tree.proofs.Least.{allows_small, crosses_variable, moves_by}
 
 -- what a term takes is its value, m times
@@ -20,8 +20,10 @@ taken_so false m (suc zero) small = omega arith
 taken_so false m (suc (suc x)) small = absurd (omega (arith, small))
 
 two_more : (w more : ℕ × ℕ) (x : ℕ) → of_two (w.0 + more.0, w.1 + more.1) x ≡ of_two w x + of_two more x
-two_more w more zero = refl
-two_more w more (suc x) = refl
+two_more w more x = elim (cases_Bool (eqb x 0)) [
+  | inl zero_is ↦ rw zero_is refl
+  | inr more_is ↦ rw more_is refl
+]
 
 module _ (g : Graph) (s : State) (d m : ℕ) (table : Table) (number : Values → ℤ) (weigh : PairsWeigh g s d table number)
     (e f : ℕ) (rises : e < f) (below : f < length g.ends) (apart : Independent g.ends e f) (crossed : Bool) where
@@ -86,6 +88,11 @@ module _ (g : Graph) (s : State) (d m : ℕ) (table : Table) (number : Values �
           omega (arith, ints, stays, entry (v.crosses a b), entry n, (weigh a b rise low indep).moved v n box allows);
     }
   ]
+
+-- a number is the least at most once
+pub one_bound : OneBound
+one_bound g rows s d parts b c one other =
+    omega (arith, ints, one.below_all other.met.0 other.met.1, other.met.2, other.below_all one.met.0 one.met.1, one.met.2)
 
 pub terms_move : TermsMove
 terms_move g s d m table number weigh e f rises below apart crossed r change =

@@ -1,7 +1,9 @@
 -- A leaf weighed by its rows: what the terms so far say of each pair, kept in a table.
-use Rattle.std.specs.Prelude.{ℕ, ◌<◌, ◌+◌, ◌-◌, ◌*◌, ◌==◌, ◌&&◌, ℤ, pos, ◌-ℤ◌, Bool, true, false, length, if◌then◌else◌}
+use Rattle.std.specs.Prelude.{◌≡◌, List, ℕ, ◌<◌, ◌+◌, ◌-◌, ◌*◌, ◌==◌, ◌&&◌, ℤ, pos, ◌-ℤ◌, Bool, true, false, length, if◌then◌else◌}
 use Rattle.xn_model.specs.Graph.{Graph, Independent}
+use Rattle.xn_kinds.specs.Bound.{IsBound}
 use Rattle.xn_kinds.specs.Row.{Values}
+use Rattle.xn_kinds.specs.declared.rows.Row.{Row}
 use Rattle.xn_kinds.specs.State.{State}
 use Rattle.xn_tree.specs.Least.{IsChange, Moves, Weighs, with_cross}
 
@@ -46,3 +48,8 @@ TermsMove =
     IsChange (s.decided e f) (pair_given d (table e f) 0) (pair_given d (table e f) 1) (takes_of crossed m).0 (takes_of crossed m).1 r →
     Moves s number (λ v. number v -ℤ pos (m * term_at crossed (v.crosses e f))) r
     × PairsWeigh g s d (with_term table e f (takes_of crossed m)) (λ v. number v -ℤ pos (m * term_at crossed (v.crosses e f)))
+
+-- a leaf has one bound, however it is reckoned
+abbrev pub OneBound : Type 0
+OneBound =
+    (g : Graph) (rows : List Row) (s : State) (d : ℕ) (parts : List (ℕ × ℕ)) (b c : ℤ) → IsBound g rows s d parts b → IsBound g rows s d parts c → b ≡ c
