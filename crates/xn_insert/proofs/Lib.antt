@@ -1,2 +1,12 @@
+pub mod Counted
+pub mod CutWalks
+pub mod Ended
+pub mod FaceWalks
+pub mod FacesAround
+pub mod Grown
+pub mod Joined
+pub mod Nearest
+pub mod Rounds
 pub mod Started
+pub mod Stepping
 pub mod Walked

@@ -1,3 +1,6 @@
 pub mod Calls
+pub mod Cuts
 pub mod ListedLoose
+pub mod Routed
+pub mod Search
 pub mod Starting

@@ -1,5 +1,5 @@
 -- Loose drawings as lists.
-use Rattle.std.specs.Prelude.{◌≡◌, ℕ, ◌+◌, Bool, true, false, List, [], ◌∷◌, filter, length, slice_index_or}
+use Rattle.std.specs.Prelude.{◌≡◌, ℕ, ◌+◌, ◌<◌, Bool, true, false, List, [], ◌∷◌, filter, length, slice_index_or}
 use Rattle.std.specs.List.{range_with_len}
 use Rattle.xn_model.specs.Graph.{Graph}
 use Rattle.xn_model.specs.Lists.{at}
@@ -19,6 +19,10 @@ loose_of nodes map walks = record { nodes = nodes; map = map; walks = walks }
 -- the walk of an edge
 abbrev pub walk_of : List (List ℕ) → ℕ → List ℕ
 walk_of walks e = slice_index_or walks e []
+
+-- all darts of the walks are below m
+abbrev pub AreWithin : List (List ℕ) → ℕ → Type 0
+AreWithin walks m = (e i : ℕ) → i < length (walk_of walks e) → at (walk_of walks e) i < m
 
 -- the list has a dart
 abbrev pub has_dart : List ℕ → Bool

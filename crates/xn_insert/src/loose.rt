@@ -4,6 +4,8 @@ ghost use Rattle.xn_model.specs.Orders.{IsEdgeList};
 ghost use Rattle.xn_insert.specs.Calls.{DrawsKept, IsStarted};
 ghost use Rattle.xn_insert.specs.ListedLoose.{HasFurtherNodes, edges_in};
 
+mod inserting;
+
 use crate::starting::walks_in_web;
 use crate::walks::Walks;
 use std::alloc::{AllocError, Global};
@@ -25,14 +27,14 @@ pub struct Loose {
 }
 
 impl Model for Loose {
-    ghost use Rattle.std.specs.Prelude.{◌≤◌};
+    ghost use Rattle.std.specs.Prelude.{◌≤◌, length};
     ghost use Rattle.xn_insert.specs.ListedLoose.{ListedLoose, loose_of};
 
     ghost Value = { ListedLoose };
 
     ghost view = { λ l. loose_of l.nodes l.map l.walks };
 
-    ghost invariant = { λ l. l.nodes ≤ l.map.web.nodes };
+    ghost invariant = { λ l. (l.nodes ≤ l.map.web.nodes) × (length l.walks ≤ 1000) };
 }
 
 impl Loose {

@@ -1,4 +1,4 @@
-ghost use Rattle.std.specs.Prelude.{◌≡◌, ◌<◌, [], length, slice_index_or};
+ghost use Rattle.std.specs.Prelude.{◌≡◌, ◌<◌, [], length, set, slice_index_or};
 ghost use Rattle.xn_list.specs.Lists.{lists_of};
 
 use std::marker::Model;
@@ -39,5 +39,13 @@ impl Walks {
         ensures { result.now ≡ slice_index_or self.now e [] }
     {
         self.lists[e].as_slice()
+    }
+
+    /// Another list in the place of an edge.
+    pub fn put(&mut self, e: u32, list: Vec<u32>)
+        requires { e < length self.old }
+        ensures { self.new ≡ set self.old e list.items }
+    {
+        self.lists[e as usize] = list;
     }
 }
