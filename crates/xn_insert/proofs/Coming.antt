@@ -92,37 +92,53 @@ module _ (g : Graph) (l : ListedLoose) (e start : ℕ) (darts : List ℕ) (goal 
   begun cuts none = grown_begun g l may.is e may.low may.new start goal darts may.listed may.route cuts none
 
   module _ (m : ListedMap) (from to : ℕ) (cuts own : List ℕ) (i : ℕ) (was : GrownTo g l e m from to cuts own (drop i darts) i) where
-    module _ (low : i < length darts) where
-      st : GrownTo g l e m from to cuts own (get_or darts i 0 ∷ drop (suc i) darts) i
-      st = subst (λ left. GrownTo g l e m from to cuts own left i) (drop-cons darts i 0 low) was
+    -- the next dart of its route
+    module _ (items : List ℕ) (same : items ≡ darts) (low : i < length items) where
+      abbrev d : ℕ
+      d = get_or items i 0
 
-      pub may_step : MayStep m from (get_or darts i 0) cuts
+      abbrev left : List ℕ
+      left = drop (suc i) items
+
+      st : GrownTo g l e m from to cuts own (d ∷ left) i
+      st = subst (λ xs. GrownTo g l e m from to cuts own xs i) (ap (drop i) (sym same) ∙ drop-cons items i 0 low) was
+
+      pub may_step : MayStep m from d cuts
       may_step =
-          let few = few_then m i (omega (arith, low)) was.segments was.nodes in
-          let d_first = d_low g l may.is e may.low may.new m from to cuts own (get_or darts i 0) (drop (suc i) darts) i st in
+          let long = ap length same in
+          let few = few_then m i (omega (arith, low, long)) was.segments was.nodes in
+          let d_first = d_low g l may.is e may.low may.new m from to cuts own d left i st in
           let size = was.cuts_size in
           record {
-            d_in = d_in g l may.is e may.low may.new m from to cuts own (get_or darts i 0) (drop (suc i) darts) i st;
+            d_in = d_in g l may.is e may.low may.new m from to cuts own d left i st;
             cut_in = omega (arith, d_first, size);
-            one_face = step_face g l may.is e may.low may.new m from to cuts own (get_or darts i 0) (drop (suc i) darts) i st;
-            flat = step_flat g l may.is e may.low may.new m from to cuts own (get_or darts i 0) (drop (suc i) darts) i st;
+            one_face = step_face g l may.is e may.low may.new m from to cuts own d left i st;
+            flat = step_flat g l may.is e may.low may.new m from to cuts own d left i st;
             few_nodes = few.0;
             few_segments = few.1;
           }
 
-      pub stepped : (new : ListedMap) → StepsOver m from (get_or darts i 0) new → GrownTo g l e new (dart_on (length m.web.ends) (get_or darts i 0)) (dart_now (get_or darts i 0 / 2) (length m.web.ends) to)
-          (set cuts (get_or darts i 0 / 2) (length m.web.ends)) (own ++ (2 * length m.web.ends + 2) ∷ []) (drop (i + 1) darts) (i + 1)
-      stepped new over =
-          let more = grown_more g l may.is e may.low may.new m from to cuts own (get_or darts i 0) (drop (suc i) darts) i st new over in
+      -- where one more segment is crossed the edge has come on
+      pub stepped : (new : ListedMap) → StepsOver m from d new → (last : ℕ) → last ≡ length m.web.ends → (from' to' : ℕ) (cuts' own' : List ℕ) → from' ≡ dart_on last d → to' ≡ dart_now (d / 2) last to →
+          cuts' ≡ set cuts (d / 2) last → own' ≡ own ++ (2 * last + 2) ∷ [] → GrownTo g l e new from' to' cuts' own' (drop (i + 1) darts) (i + 1)
+      stepped new over last last_is from' to' cuts' own' from_is to_is cuts_are own_is =
+          let more = grown_more g l may.is e may.low may.new m from to cuts own d left i st new over in
           let on : suc i ≡ i + 1 = omega arith in
-          subst (λ k. GrownTo g l e new (dart_on (length m.web.ends) (get_or darts i 0)) (dart_now (get_or darts i 0 / 2) (length m.web.ends) to) (set cuts (get_or darts i 0 / 2) (length m.web.ends))
-          (own ++ (2 * length m.web.ends + 2) ∷ []) (drop k darts) (i + 1)) on more
+          let rest : left ≡ drop (i + 1) darts = ap (λ k. drop k items) on ∙ ap (drop (i + 1)) same in
+          let A : ℕ → Type 0 = λ k. GrownTo g l e new (dart_on k d) (dart_now (d / 2) k to) (set cuts (d / 2) k) (own ++ (2 * k + 2) ∷ []) left (i + 1) in
+          let B : ℕ → Type 0 = λ x. GrownTo g l e new x (dart_now (d / 2) last to) (set cuts (d / 2) last) (own ++ (2 * last + 2) ∷ []) left (i + 1) in
+          let C : ℕ → Type 0 = λ x. GrownTo g l e new from' x (set cuts (d / 2) last) (own ++ (2 * last + 2) ∷ []) left (i + 1) in
+          let D : List ℕ → Type 0 = λ xs. GrownTo g l e new from' to' xs (own ++ (2 * last + 2) ∷ []) left (i + 1) in
+          let E : List ℕ → Type 0 = λ xs. GrownTo g l e new from' to' cuts' xs left (i + 1) in
+          let F : List ℕ → Type 0 = λ xs. GrownTo g l e new from' to' cuts' own' xs (i + 1) in
+          subst F rest (subst E (sym own_is) (subst D (sym cuts_are) (subst C (sym to_is) (subst B (sym from_is) (subst A (sym last_is) more)))))
 
     module _ (all : i ≡ length darts) where
       done : GrownTo g l e m from to cuts own [] i
       done = subst (λ left. GrownTo g l e m from to cuts own left i) (drop_of_length-le darts (omega (arith, all))) was
 
       pub may_end : IsListedMap m → MayEnd m from to cuts
+      unfolding done
       may_end listed =
           let few = few_then m i (omega (arith, all)) was.segments was.nodes in
           let fits = listed.fits in
