@@ -42,13 +42,14 @@ fn one_edge_is_walked(rt: HostRuntime) -> Result<(), Fail> {
 }
 
 /// The loose drawing of no edge.
-fn no_edge(rt: &impl Abort, alloc: Global, graph: &Graph) -> Result<Loose, Fail>
+fn no_edge(alloc: Global, graph: &Graph) -> Result<Loose, Fail>
     ensures { IfOk result (λ l. IsLooseOf graph.now l × (edges_in l ≡ [])) }
 {
     let web = Web::make(graph.nodes(), Vec::new(alloc))?;
     let map = Map::make(alloc, web, &[])?;
-    let flat = map.is_flat(alloc)?;
-    assert!(rt; flat);
+    if !map.is_flat(alloc)? {
+        return Err("not flat")?;
+    }
     let orders = Orders::new(Vec::new(alloc));
     Ok(Loose::start(alloc, graph, &[], &orders, map)?)
 }
@@ -61,7 +62,7 @@ fn all_come_in(
     ends: &[(u32, u32)],
 ) -> Result<(u64, u32), Fail> {
     let graph = Graph::make(nodes, Vec::from_slice(alloc, ends)?)?;
-    let mut loose = no_edge(rt, alloc, &graph)?;
+    let mut loose = no_edge(alloc, &graph)?;
     for e in 0..graph.edges() {
         assert!(rt; loose.crossings() <= 1_000);
         loose.insert(alloc, &graph, e)?;
