@@ -1,4 +1,5 @@
 pub mod Counted
+pub mod CutLists
 pub mod CutWalks
 pub mod Ended
 pub mod FaceWalks
