@@ -27,7 +27,7 @@ unmet-most n (c ∷ cs) =
     bit true = omega arith
     bit false = omega arith
 
-not_listed : (x : ℕ) → has [] x ≡ true → ⊥
+pub not_listed : (x : ℕ) → has [] x ≡ true → ⊥
 not_listed x h = both_ways false refl h
 
 module _ (names : List ℕ) (below : (d : ℕ) → d < length names → at names d < length names) (rev_in : (d : ℕ) → d < length names → reverse_of d < length names) where
