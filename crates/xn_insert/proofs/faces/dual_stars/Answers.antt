@@ -15,8 +15,8 @@ made_as : {T E : Type 0} (r : Result T E) (P : Type 0) (v x : T) → OkIff r P v
 made_as (Ok y) P v x made same = cc (made.1, same)
 made_as (Err e) P v x refused same = absurd (cc)
 
-pub unwrap-requires : goal.unwrap-requires
-unwrap-requires c =
+pub unwrap-web-requires : goal.unwrap-web-requires
+unwrap-web-requires c =
     let names = c.args.names.now in
     let ends = c.in_ok-ends.ends.items in
     let half : 2 * (length names / 2) ≡ length names = omega (arith, c.requires.even) in

@@ -1,4 +1,4 @@
-use Rattle.std.proofs.Common.{◌≡◌, suc, ◌*◌, length, set, sym, ◌∙◌, ap, subst, arith}
+use Rattle.std.proofs.Common.{◌≡◌, suc, ◌*◌, ◌<◌, length, set, sym, ◌∙◌, ap, subst, arith}
 use Rattle.xn_model.specs.Graph.{Graph}
 use Rattle.xn_model.specs.Lists.{at}
 use Rattle.xn_model.proofs.Darts.{reverse_below}
@@ -12,8 +12,8 @@ loop-names-init c =
 pub bounds-names-e : goal.bounds-names-e
 bounds-names-e c = let now = c.loop-names.invariant.1 in omega (arith, now.dart, now.size)
 
-pub next-requires : goal.next-requires
-next-requires c =
+pub next-e-requires : goal.next-e-requires
+next-e-requires c =
     let m = c.args.map.now in
     let fits = c.web.ensures.is_map.fits in
     let now = c.loop-names.invariant.1 in
@@ -29,7 +29,7 @@ loop-names-preserved c =
     let e = c.loop-names.e in
     let k = c.loop-names.invariant.0 in
     let more = named_more m c.web.ensures.is_map d c.requires.dart old c.requires.closed c.requires.fresh k e names c.loop-names.invariant.1 in
-    (suc k, subst (λ x. IsNamed m d old (suc k) x (set names e d)) (sym c.next.ensures.value) more)
+    (suc k, subst (λ x. IsNamed m d old (suc k) x (set names e d)) (sym c.next-e.ensures.value) more)
 
 pub loop-names-smaller : goal.loop-names-smaller
 loop-names-smaller c =
@@ -37,7 +37,7 @@ loop-names-smaller c =
     let is = c.web.ensures.is_map in
     let now = c.loop-names.invariant.1 in
     let ends = ap (λ (w : Graph). length w.ends) c.web.ensures.value in
-    let e_in = let low = now.dart in let size = now.size in omega (arith, low, size) in
+    let e_in : c.loop-names.e < length c.loop-names.names = let low = now.dart in let size = now.size in omega (arith, low, size) in
     let new : at c.loop-names.names c.loop-names.e ≡ length m.next = omega (arith, c.loop-names-test.true, c.segments-darts.ensures.value, ends, is.fits) in
     fewer_left m is c.args.d c.requires.dart c.args.names.now c.requires.closed c.requires.fresh c.loop-names.names c.loop-names.e e_in new
 

@@ -4,7 +4,7 @@ use Rattle.xn_model.specs.Graph.{Graph}
 use Rattle.xn_model.specs.Lists.{at}
 use Rattle.xn_insert.specs.Routed.{AreClosed}
 use Rattle.xn_insert.proofs.FaceWalks.{all_named, none_named}
-use Rattle.xn_insert.proofs.faces.name_faces.Goals.{then-names-d-darts, else-names-d-darts}
+use Rattle.xn_insert.proofs.faces.name_faces.Goals.{then-names-d, else-names-d}
 use Rattle.xn_insert.proofs.faces.name_faces.Goals as goal
 
 pub loop-d-init : goal.loop-d-init
@@ -16,7 +16,7 @@ loop-d-init c = record {
 pub name_face-requires-clause-fresh : goal.name_face-requires-clause-fresh
 name_face-requires-clause-fresh c =
     let ends = ap (λ (w : Graph). length w.ends) c.web.ensures.value in
-    omega (arith, c.if-names-d-darts.true, c.segments-darts.ensures.value, ends, c.web.ensures.is_map.fits)
+    omega (arith, c.if-names-d.true, c.segments-darts.ensures.value, ends, c.web.ensures.is_map.fits)
 
 pub loop-d-preserved : goal.loop-d-preserved
 loop-d-preserved c =
@@ -27,8 +27,8 @@ loop-d-preserved c =
     let ends = ap (λ (w : Graph). length w.ends) c.web.ensures.value in
     let darts : 2 * c.segments-darts.result ≡ length m.next = omega (arith, c.segments-darts.ensures.value, ends, c.web.ensures.is_map.fits) in
     let d_in : d < length m.next = omega (arith, c.loop-d-test.true, darts) in
-    elim c.if-names-d-darts.branch [
-      | then-names-d-darts w ↦
+    elim c.if-names-d.branch [
+      | then-names-d w ↦
           let done = w.name_face.ensures in
           rw w.names-is (record {
             closed = done.closed;
@@ -37,8 +37,8 @@ loop-d-preserved c =
               | inr other ↦ done.kept x (omega (arith, low, d_in)) (old.named x (omega (arith, low, other)))
             ];
           })
-      | else-names-d-darts w ↦
-          let has_name : at names d ≢ length m.next = λ none. w.if-names-d-darts.false (none ∙ sym darts) in
+      | else-names-d w ↦
+          let has_name : at names d ≢ length m.next = λ none. w.if-names-d.false (none ∙ sym darts) in
           let most = old.closed.bound d d_in in
           rw w.names-is (record {
             closed = old.closed;
