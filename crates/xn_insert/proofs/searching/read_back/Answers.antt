@@ -9,13 +9,15 @@ use Rattle.xn_insert.proofs.searching.read_back.Goals as goal
 pub loop-init : goal.loop-init
 loop-init c =
     let names = c.args.names.now in
+    let by = c.args.by.now in
     let face = c.args.face in
     let none = c.new-darts.ensures.items in
+    let all : c.args.steps ≡ c.args.steps - 0 = omega arith in
     record {
       size = ap length none;
-      chain = c.requires.chain;
+      chain = subst (λ k. IsChain names by k face) all c.requires.chain;
       over = λ ds y over. subst (λ l. Over names face (l ++ ds) y) (sym none) over;
-      ends = λ y ends. ends;
+      ends = λ y ends. subst (λ k. ChainEnds names by k face y) (sym all) ends;
     }
 
 pub bounds-by-x : goal.bounds-by-x
@@ -63,7 +65,7 @@ returns c =
     let now = c.loop.invariant in
     let none : steps - c.loop.counter ≡ 0 = omega (arith, c.loop-test.false) in
     record {
-      size = omega (arith, now.size, c.loop-test.false, c.loop.auto.counter);
+      size = omega (arith, now.size, c.loop-test.false, c.loop.auto.counter-end);
       over = subst (λ l. Over names face l x) (append-nil darts) (now.over [] x refl);
       ends = now.ends x (subst (λ k. ChainEnds names by k x x) (sym none) refl);
       inside = chain_in names by (steps - c.loop.counter) x now.chain;
