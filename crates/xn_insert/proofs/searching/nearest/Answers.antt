@@ -50,7 +50,7 @@ returns-then-is_empty c =
 pub next_front-requires-clause-front : goal.next_front-requires-clause-front
 next_front-requires-clause-front c = λ x h.
     let names = c.args.names.now in
-    let listed = sym (ap (λ l. has l x) c.deref-2.ensures.value) ∙ h in
+    let listed = sym (ap (λ l. has l x) c.deref-in-loop-x.ensures.value) ∙ h in
     front_in names c.args.by.now c.args.starts.now c.loop-x.by c.loop-x.front.items c.loop-x.rounds c.loop-x.invariant x listed
 
 pub loop-x-preserved : goal.loop-x-preserved
@@ -60,8 +60,8 @@ loop-x-preserved c =
     let back = dual_reverse names c.args.stars.now c.requires.dual in
     let front = c.loop-x.front.items in
     let no_start : (x : ℕ) → has front x ≡ true → length names ≤ at starts x = λ x h.
-    let high = c.in-None.ensures x (ap (λ l. has l x) c.deref.ensures.value ∙ h) in omega (arith, high, c.requires.starts) in
-    let round = subst (λ l. IsRound names c.loop-x.by l (length l) [] 0 c.next_front.new.by c.in_ok-front-2.front.items) c.deref-2.ensures.value c.in_ok-front-2.ensures in
+    let high = c.in_default.ensures x (ap (λ l. has l x) c.deref.ensures.value ∙ h) in omega (arith, high, c.requires.starts) in
+    let round = subst (λ l. IsRound names c.loop-x.by l (length l) [] 0 c.next_front.new.by c.in_ok-front-2.front.items) c.deref-in-loop-x.ensures.value c.in_ok-front-2.ensures in
     let not_over : front ≢ [] = λ none. eqb-false _ _ (sym c.is_empty.ensures ∙ c.if-is_empty.false) (omega (arith, ap length none, c.loop-x.front.ok.0)) in
     searched_more names c.requires.below back c.args.by.now starts c.loop-x.by front c.loop-x.rounds c.loop-x.invariant
     c.next_front.new.by c.in_ok-front-2.front.items no_start not_over round
@@ -70,7 +70,7 @@ pub loop-x-smaller : goal.loop-x-smaller
 loop-x-smaller c =
     let names = c.args.names.now in
     let front = c.loop-x.front.items in
-    let round = subst (λ l. IsRound names c.loop-x.by l (length l) [] 0 c.next_front.new.by c.in_ok-front-2.front.items) c.deref-2.ensures.value c.in_ok-front-2.ensures in
+    let round = subst (λ l. IsRound names c.loop-x.by l (length l) [] 0 c.next_front.new.by c.in_ok-front-2.front.items) c.deref-in-loop-x.ensures.value c.in_ok-front-2.ensures in
     let some : length front ≢ 0 = λ none. eqb-false _ _ (sym c.is_empty.ensures ∙ c.if-is_empty.false) (omega (arith, none, c.loop-x.front.ok.0)) in
     omega (arith, round.fewer, some)
 

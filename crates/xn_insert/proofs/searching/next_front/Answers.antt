@@ -10,7 +10,7 @@ use Rattle.xn_insert.specs.Routed.{IsDual}
 use Rattle.xn_insert.specs.Search.{IsRound}
 use Rattle.xn_insert.proofs.Rounds.{dart_met, dart_new, face_begun, face_done, round_begun}
 use Rattle.xn_insert.proofs.Duals.{dual_dart, dual_place, dual_reverse}
-use Rattle.xn_insert.proofs.searching.next_front.Goals.{then-by-y-len+in_ok-push, else-by-y-len}
+use Rattle.xn_insert.proofs.searching.next_front.Goals.{then-by-y+in_ok-push, else-by-y}
 use Rattle.xn_insert.proofs.searching.next_front.Goals as goal
 
 pub loop-x-init : goal.loop-x-init
@@ -66,13 +66,13 @@ loop-d-preserved c =
     let in_front : has front (at names d) ≡ true = ap (has front) dart.1 ∙ has-at front i c.loop-x-test.true in
     let by = c.loop-d.by in
     let next = c.loop-d.next.items in
-    elim c.if-by-y-len.branch [
-      | then-by-y-len+in_ok-push w ↦
+    elim c.if-by-y.branch [
+      | then-by-y+in_ok-push w ↦
           rw (w.by-is, w.next-is, w.in_ok-push.ensures.items)
-          (dart_new names c.requires.below back old front c.requires.marks i darts by next j d c.loop-d.invariant refl dart.0 in_front w.if-by-y-len.true)
-      | else-by-y-len w ↦
+          (dart_new names c.requires.below back old front c.requires.marks i darts by next j d c.loop-d.invariant refl dart.0 in_front w.if-by-y.true)
+      | else-by-y w ↦
           rw (w.by-is, w.next-is)
-          (dart_met names c.requires.below back old front c.requires.marks i darts by next j d c.loop-d.invariant refl dart.0 w.if-by-y-len.false)
+          (dart_met names c.requires.below back old front c.requires.marks i darts by next j d c.loop-d.invariant refl dart.0 w.if-by-y.false)
     ]
 
 pub loop-x-preserved : goal.loop-x-preserved
