@@ -1,5 +1,5 @@
 -- The darts at a face of the dual web.
-use Rattle.std.proofs.Common.{◌≡◌, ℕ, ◌*◌, ◌<◌, ◌≤◌, List, length, sym, ◌∙◌, ap, arith}
+use Rattle.std.proofs.Common.{◌≡◌, ℕ, ◌<◌, ◌≤◌, List, length, sym, ◌∙◌, ap, arith}
 use Rattle.xn_model.specs.Graph.{Graph}
 use Rattle.xn_model.specs.Lists.{at}
 use Rattle.xn_model.specs.Map.{reverse_of, tail_of}

@@ -1,4 +1,4 @@
-use Rattle.std.proofs.Common.{◌≡◌, ◌+◌, ◌/◌, length, refl, sym, ◌∙◌, subst, arith}
+use Rattle.std.proofs.Common.{◌≡◌, ◌+◌, ◌/◌, length, refl, sym, subst, arith}
 use Rattle.xn_insert.specs.Routed.{AreDualEnds}
 use Rattle.xn_insert.proofs.FacesAround.{dual_more}
 use Rattle.xn_insert.proofs.faces.dual_ends.Goals as goal

@@ -1,8 +1,6 @@
-use Rattle.std.proofs.Common.{◌≡◌, ◌*◌, ◌/◌, Result, Ok, Err, length, refl, sym, ◌∙◌, ap, subst, arith}
+use Rattle.std.proofs.Common.{◌≡◌, ◌*◌, ◌/◌, Result, Ok, Err, length, refl, sym, ◌∙◌, subst, arith}
 use Rattle.std.specs.Result.{IsOk, OkIff}
 use Rattle.std.proofs.lemmas.Result.{IfOk-weaker}
-use Rattle.xn_model.specs.Graph.{Graph}
-use Rattle.xn_graph.specs.Limits.{IsLimitedWeb, graph_of}
 use Rattle.xn_insert.specs.Routed.{IsDual}
 use Rattle.xn_insert.proofs.FacesAround.{dual_limited, is_dual}
 use Rattle.xn_insert.proofs.faces.dual_stars.Goals as goal

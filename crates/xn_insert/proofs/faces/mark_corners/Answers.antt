@@ -1,6 +1,5 @@
 use Rattle.std.proofs.Common.{◌≡◌, ◌<◌, length, sym, ◌∙◌, ap, subst, arith}
 use Rattle.xn_model.specs.Graph.{Graph}
-use Rattle.xn_model.specs.Map.{tail_of}
 use Rattle.xn_insert.specs.Routed.{MarkCorners}
 use Rattle.xn_insert.proofs.FacesAround.{corners_more, corners_none, corners_same}
 use Rattle.xn_insert.proofs.faces.mark_corners.Goals.{then-tail-v, else-tail-v}

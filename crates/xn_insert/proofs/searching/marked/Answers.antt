@@ -1,6 +1,5 @@
-use Rattle.std.proofs.Common.{◌≡◌, ◌<◌, ℕ, true, [], length, refl, sym, ◌∙◌, ap, subst, arith}
+use Rattle.std.proofs.Common.{◌≡◌, ◌<◌, ℕ, true, length, sym, ◌∙◌, ap, subst, arith}
 use Rattle.std.specs.Prelude.{◌↔◌}
-use Rattle.std.proofs.lemmas.Bool.{both_ways}
 use Rattle.xn_model.specs.Lists.{has}
 use Rattle.xn_insert.specs.Search.{IsMarked}
 use Rattle.xn_insert.proofs.Fronts.{lists_more, lists_same}

@@ -1,7 +1,7 @@
-use Rattle.std.proofs.Common.{◌≡◌, ◌≢◌, ℕ, ◌+◌, ◌<◌, ◌≤◌, ◌^◌, inl, inr, true, List, [], ◌∷◌, length, refl, sym, ◌∙◌, ap, subst, arith}
+use Rattle.std.proofs.Common.{◌≡◌, ◌≢◌, ℕ, ◌<◌, ◌≤◌, inl, inr, true, List, [], ◌∷◌, length, refl, sym, ◌∙◌, ap, subst, arith}
 use Rattle.std.proofs.lemmas.Bool.{eqb-false, eqb-true}
 use Rattle.xn_model.specs.Lists.{at, has}
-use Rattle.xn_insert.specs.Search.{IsFound, IsMarked, IsRound, IsSearched, NoneFound}
+use Rattle.xn_insert.specs.Search.{IsMarked, IsRound, IsSearched}
 use Rattle.xn_insert.proofs.Duals.{dual_reverse}
 use Rattle.xn_insert.proofs.Fronts.{chain_in}
 use Rattle.xn_insert.proofs.Rounds.{found, none_found, searched_begun, searched_more}

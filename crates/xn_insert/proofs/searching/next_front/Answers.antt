@@ -1,12 +1,7 @@
-use Rattle.std.proofs.Common.{◌≡◌, ◌≢◌, ℕ, ◌*◌, ◌<◌, true, List, [], length, refl, sym, ◌∙◌, ap, subst, arith}
-use Rattle.xn_model.specs.Graph.{Graph}
+use Rattle.std.proofs.Common.{◌≡◌, true, [], length, refl, sym, ◌∙◌, ap, subst, arith}
 use Rattle.xn_model.specs.Lists.{at, has}
-use Rattle.xn_model.specs.Map.{reverse_of, tail_of}
-use Rattle.xn_model.proofs.Darts.{reverse_below}
+use Rattle.xn_model.specs.Map.{reverse_of}
 use Rattle.xn_model.proofs.Has.{has-at}
-use Rattle.xn_graph.specs.Stars.{darts_of}
-use Rattle.xn_graph.proofs.DartsOf.{darts_of-at, darts_of-place}
-use Rattle.xn_insert.specs.Routed.{IsDual}
 use Rattle.xn_insert.specs.Search.{IsRound}
 use Rattle.xn_insert.proofs.Rounds.{dart_met, dart_new, face_begun, face_done, round_begun}
 use Rattle.xn_insert.proofs.Duals.{dual_dart, dual_place, dual_reverse}
