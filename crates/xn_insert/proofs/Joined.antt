@@ -159,6 +159,10 @@ pub record MayJoin (g : Graph) (e : ℕ) (l : ListedLoose) : Type 0 where
   pub few : l.map.web.nodes ≤ l.nodes + 2 ^ 24
   pub none : HasNoRoute l.map (ends_at g.ends e).0 (ends_at g.ends e).1
 
+pub may_join : (g : Graph) (e : ℕ) (l old : ListedLoose) → l ≡ old → IsLooseOf g old → e < length g.ends → has (edges_in old) e ≡ false → old.map.web.nodes ≤ old.nodes + 2 ^ 24 →
+    HasNoRoute old.map (ends_at g.ends e).0 (ends_at g.ends e).1 → MayJoin g e l
+may_join g e l old same loose edge new_edge few none = subst (MayJoin g e) (sym same) (record { loose = loose; edge = edge; new_edge = new_edge; few = few; none = none })
+
 module _ (g : Graph) (e : ℕ) (l : ListedLoose) (may : MayJoin g e l) (p : ℕ × ℕ) (p_is : p ≡ ends_at g.ends e) where
   pub are_nodes : (p.0 < l.map.web.nodes) × (p.1 < l.map.web.nodes)
   are_nodes = subst (λ q. (q.0 < l.map.web.nodes) × (q.1 < l.map.web.nodes)) (sym p_is) (ends_low g l may.loose e may.edge may.new_edge may.none)

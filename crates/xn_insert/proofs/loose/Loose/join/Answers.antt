@@ -1,63 +1,58 @@
 use Rattle.std.proofs.Common.{◌≡◌, ◌*◌, ◌∷◌, [], List, ℕ, length, set, inr, sym, ap, subst, ◌∙◌, arith, rules}
 use Rattle.std.proofs.lemmas.List.{length-set}
-use Rattle.xn_model.specs.Graph.{ends_at}
 use Rattle.xn_insert.specs.Calls.{IsInserted}
 use Rattle.xn_insert.specs.ListedLoose.{ListedLoose, loose_of}
 use Rattle.xn_insert.proofs.Counted.{few_of}
-use Rattle.xn_insert.proofs.Joined.{MayJoin, are_nodes, inserted_then, nodes_apart, nodes_differ}
+use Rattle.xn_insert.proofs.Joined.{are_nodes, inserted_then, may_join, nodes_apart, nodes_differ}
 use Rattle.xn_insert.proofs.loose.Loose.join.Goals as goal
 
-may_join : (c : goal.After-end-u) → MayJoin c.args.graph.now c.args.e (loose_of c.self.inside.nodes c.self.inside.map c.self.inside.walks)
-may_join c = subst (MayJoin c.args.graph.now c.args.e) (sym c.self.view_is) (record {
-  loose = c.requires.loose;
-  edge = c.requires.edge;
-  new_edge = c.requires.new;
-  few = c.requires.few;
-  none = c.requires.apart;
-})
-
-pub corner_of-requires : goal.corner_of-requires
-corner_of-requires c =
+pub corner_of-from-requires : goal.corner_of-from-requires
+corner_of-from-requires c =
     let l = loose_of c.self.inside.nodes c.self.inside.map c.self.inside.walks in
-    (are_nodes c.args.graph.now c.args.e l (may_join c) c.end-u.result c.end-u.ensures.value).0
+    let may = may_join c.args.graph.now c.args.e l c.args.self.now c.self.view_is c.requires.loose c.requires.edge c.requires.new c.requires.few c.requires.apart in
+    (are_nodes c.args.graph.now c.args.e l may c.end-u.result c.end-u.ensures.value).0
 
-pub corner_of-requires-2 : goal.corner_of-requires-2
-corner_of-requires-2 c =
+pub corner_of-to-requires : goal.corner_of-to-requires
+corner_of-to-requires c =
     let l = loose_of c.self.inside.nodes c.self.inside.map c.self.inside.walks in
-    (are_nodes c.args.graph.now c.args.e l (may_join c) c.end-u.result c.end-u.ensures.value).1
+    let may = may_join c.args.graph.now c.args.e l c.args.self.now c.self.view_is c.requires.loose c.requires.edge c.requires.new c.requires.few c.requires.apart in
+    (are_nodes c.args.graph.now c.args.e l may c.end-u.result c.end-u.ensures.value).1
 
-pub add_edge-requires-clause-few : goal.add_edge-requires-clause-few
-add_edge-requires-clause-few c =
+pub add_edge-requires : goal.add_edge-requires
+add_edge-requires c =
+    let g = c.args.graph.now in
+    let e = c.args.e in
     let l = loose_of c.self.inside.nodes c.self.inside.map c.self.inside.walks in
-    let may = may_join c in
-    omega (arith, few_of c.args.graph.now l may.loose c.self.invariant.1 may.few)
+    let may = may_join g e l c.args.self.now c.self.view_is c.requires.loose c.requires.edge c.requires.new c.requires.few c.requires.apart in
+    let p = c.end-u.result in
+    record {
+      few = let most = few_of g l may.loose c.self.invariant.1 may.few in omega (arith, most);
+      a_in = c.corner_of-from.ensures.corner;
+      b_in = c.corner_of-to.ensures.corner;
+      two_nodes = nodes_differ g e l may p c.end-u.ensures.value c.corner_of-from.result c.corner_of-to.result c.corner_of-from.ensures.node c.corner_of-to.ensures.node;
+      one_face = inr (nodes_apart g e l may p c.end-u.ensures.value c.corner_of-from.result c.corner_of-to.result c.corner_of-from.ensures.node c.corner_of-to.ensures.node);
+    }
 
-pub add_edge-requires-clause-two_nodes : goal.add_edge-requires-clause-two_nodes
-add_edge-requires-clause-two_nodes c =
-    let l = loose_of c.self.inside.nodes c.self.inside.map c.self.inside.walks in
-    nodes_differ c.args.graph.now c.args.e l (may_join c) c.end-u.result c.end-u.ensures.value c.corner_of.result c.corner_of-2.result c.corner_of.ensures.node c.corner_of-2.ensures.node
-
-pub add_edge-requires-clause-one_face : goal.add_edge-requires-clause-one_face
-add_edge-requires-clause-one_face c =
-    let l = loose_of c.self.inside.nodes c.self.inside.map c.self.inside.walks in
-    inr (nodes_apart c.args.graph.now c.args.e l (may_join c) c.end-u.result c.end-u.ensures.value c.corner_of.result c.corner_of-2.result c.corner_of.ensures.node c.corner_of-2.ensures.node)
-
-pub invariant_of-self-3 : goal.invariant_of-self-3
-invariant_of-self-3 c = (
-  omega (arith, c.self.invariant.0, c.in_ok-add_edge.ensures.ok.0),
-  omega (arith, c.self.invariant.1, ap length c.put.ensures, length-set c.self.inside.walks c.args.e c.in_ok-own.own.items),
-)
+pub invariant_of-self-2 : goal.invariant_of-self-2
+invariant_of-self-2 c =
+    let nodes = c.self.invariant.0 in
+    let same_nodes = c.in_ok-add_edge.ensures.ok.0 in
+    let walks = c.self.invariant.1 in
+    let put = ap length c.put.ensures in
+    let size = length-set c.self.inside.walks c.args.e c.in_ok-own.own.items in
+    (omega (arith, nodes, same_nodes), omega (arith, walks, put, size))
 
 pub returns-clause-ok : goal.returns-clause-ok
 returns-clause-ok c =
     let g = c.args.graph.now in
     let e = c.args.e in
     let l = loose_of c.self.inside.nodes c.self.inside.map c.self.inside.walks in
+    let may = may_join g e l c.args.self.now c.self.view_is c.requires.loose c.requires.edge c.requires.new c.requires.few c.requires.apart in
     let m = c.add_edge.new.self in
     let segments = c.segments.ensures.value ∙ ap (λ w. length w.ends) c.web.ensures.value in
     let own : c.in_ok-own.own.items ≡ (2 * length l.map.web.ends) ∷ [] = c.in_ok-own.ensures.items_if_clones_equal (search rules) ∙ ap (λ k. (2 * k) ∷ []) segments in
-    let then = inserted_then g e l (may_join c) c.end-u.result c.end-u.ensures.value c.corner_of.result c.corner_of-2.result c.corner_of.ensures.node c.corner_of-2.ensures.node
-    c.web.ensures.is_map c.corner_of.ensures.corner c.corner_of-2.ensures.corner m c.in_ok-add_edge.ensures.ok c.web-2.ensures.is_map c.in_ok-add_edge.ensures.flat c.in_ok-own.own.items own in
+    let then = inserted_then g e l may c.end-u.result c.end-u.ensures.value c.corner_of-from.result c.corner_of-to.result c.corner_of-from.ensures.node c.corner_of-to.ensures.node
+    c.web.ensures.is_map c.corner_of-from.ensures.corner c.corner_of-to.ensures.corner m c.in_ok-add_edge.ensures.ok c.web-2.ensures.is_map c.in_ok-add_edge.ensures.flat c.in_ok-own.own.items own in
     let P : List (List ℕ) → Type 0 = λ ws. IsInserted g e l (loose_of l.nodes m ws) in
     let Q : ListedLoose → Type 0 = λ x. IsInserted g e x (loose_of l.nodes m c.put.new.self) in
     subst Q c.self.view_is (subst P (sym c.put.ensures) then)
