@@ -11,8 +11,8 @@ add_edge-requires c =
     let longer = divided.1.longer in
     let last_is : last ≡ length old.web.ends = omega (arith, c.segments-last.ensures.value, size, longer) in
     let here =
-    corners old c.requires.map c.requires.flat c.args.c c.args.d c.requires.c_in c.requires.d_in c.requires.one_face c.subdivide.new.self divided last c.moved-from.result c.back_of-to.result
-    last_is c.moved-from.ensures c.back_of-to.ensures c.web.ensures.is_map in
+    corners old c.requires.map c.requires.flat c.args.c c.args.d c.requires.c_in c.requires.d_in c.requires.one_face c.subdivide.new.self divided last c.moved.result c.back_of.result
+    last_is c.moved.ensures c.back_of.ensures c.web.ensures.is_map in
     let few = c.requires.few_segments in
     record { few = omega (arith, longer, few); a_in = here.first; b_in = here.second; two_nodes = here.two_nodes; one_face = inl here.one_face }
 
@@ -23,6 +23,6 @@ returns c =
     let last = c.segments-last.result - 1 in
     let last_is : last ≡ length old.web.ends = omega (arith, c.segments-last.ensures.value, ap (λ w. length w.ends) c.web.ensures.value, divided.1.longer) in
     let here =
-    corners old c.requires.map c.requires.flat c.args.c c.args.d c.requires.c_in c.requires.d_in c.requires.one_face c.subdivide.new.self divided last c.moved-from.result c.back_of-to.result
-    last_is c.moved-from.ensures c.back_of-to.ensures c.web.ensures.is_map in
+    corners old c.requires.map c.requires.flat c.args.c c.args.d c.requires.c_in c.requires.d_in c.requires.one_face c.subdivide.new.self divided last c.moved.result c.back_of.result
+    last_is c.moved.ensures c.back_of.ensures c.web.ensures.is_map in
     here.steps c.add_edge.new.self c.in_ok-add_edge.ensures.ok
