@@ -1,10 +1,10 @@
 -- An edge between two components, on the lists of a map that calls have changed.
-use Rattle.std.proofs.Common.{◌≡◌, ◌≢◌, ℕ, zero, suc, ◌+◌, ◌*◌, ◌^◌, ◌<◌, ◌≤◌, inl, inr, Bool, true, false, cond, eqb, List, [], ◌∷◌, ◌++◌, length, set, refl, sym, ◌∙◌, ap, subst, arith, length-append}
+use Rattle.std.proofs.Common.{◌≡◌, ◌≢◌, ℕ, zero, suc, ◌+◌, ◌*◌, ◌^◌, ◌<◌, ◌≤◌, inl, inr, false, cond, eqb, List, [], ◌∷◌, length, set, refl, sym, ◌∙◌, ap, subst, arith, length-append}
 use Rattle.std.proofs.lemmas.Bool.{cases_eq, cond-false, cond-true, eq-eqb, ne_eqb}
 use Rattle.std.proofs.lemmas.List.{get_or-set_other, get_or-set_same, length-set}
 use Rattle.xn_model.specs.Graph.{Graph, ends_at}
 use Rattle.xn_model.specs.Lists.{at, has}
-use Rattle.xn_model.specs.Loose.{GoesStraight, IsLoose, IsRoute, IsRouteLength}
+use Rattle.xn_model.specs.Loose.{GoesStraight, IsLoose}
 use Rattle.xn_model.specs.Map.{IsMap, Joined, MeetsEuler, WalksTo, reverse_of, tail_of}
 use Rattle.xn_model.proofs.Darts.{reverse_below}
 use Rattle.xn_genus.proofs.Kept.{EndsIn_at}
@@ -20,7 +20,7 @@ use Rattle.xn_loose.proofs.RoutesThere.{routes_are_there}
 use Rattle.xn_loose.proofs.Shortest.{simple_crosses}
 use Rattle.xn_loose.proofs.Within.{faces_have_names}
 use Rattle.xn_insert.specs.Calls.{IsInserted}
-use Rattle.xn_insert.specs.ListedLoose.{IsLooseOf, ListedLoose, edges_in, has_dart, loose_of, walk_of}
+use Rattle.xn_insert.specs.ListedLoose.{IsLooseOf, ListedLoose, edges_in, loose_of, walk_of}
 use Rattle.xn_insert.specs.Routed.{HasNoRoute}
 use Rattle.xn_insert.proofs.CutWalks.{none_cut}
 use Rattle.xn_insert.proofs.Ended.{edges_then}

@@ -1,18 +1,17 @@
 -- The nearest start gives a least route.
-use Rattle.std.proofs.Common.{◌≡◌, ◌≢◌, ℕ, zero, suc, ◌*◌, ◌<◌, ◌≤◌, inl, inr, true, List, [], ◌∷◌, length, refl, sym, ◌∙◌, ap, subst, arith}
+use Rattle.std.proofs.Common.{◌≡◌, ℕ, zero, suc, ◌*◌, ◌<◌, ◌≤◌, inl, inr, true, List, [], ◌∷◌, length, refl, sym, ◌∙◌, ap, subst, arith}
 use Rattle.std.specs.Prelude.{IfNone, IfSome, None, Option, Some}
 use Rattle.xn_model.specs.Lists.{at}
-use Rattle.xn_model.specs.Loose.{CrossesTo, IsRoute, IsRouteLength}
-use Rattle.xn_model.specs.Map.{IsMap, face_step, reverse_of, tail_of}
-use Rattle.xn_model.specs.Permutation.{Reaches}
+use Rattle.xn_model.specs.Loose.{CrossesTo}
+use Rattle.xn_model.specs.Map.{IsMap, reverse_of, tail_of}
 use Rattle.xn_model.proofs.Darts.{reverse_below}
 use Rattle.xn_ring.proofs.Orbits.{source_of}
 use Rattle.xn_map.specs.Listed.{IsListedMap, ListedMap}
-use Rattle.xn_loose.specs.Routes.{AreFaceNames, RouteOf}
+use Rattle.xn_loose.specs.Routes.{RouteOf}
 use Rattle.xn_loose.proofs.RoutesThere.{Route}
 use Rattle.xn_loose.proofs.Shortest.{by_names_crosses, least_once, same_name}
 use Rattle.xn_insert.specs.Routed.{HasNoRoute, IsCornerIn, IsLeastRoute, MarkCorners, NamesFaces}
-use Rattle.xn_insert.specs.Search.{ChainEnds, IsChain, IsFound, IsFoundRoute, IsMarked, IsNear, IsReadBack, LeadsBy, NoneFound, Over}
+use Rattle.xn_insert.specs.Search.{IsFound, IsFoundRoute, IsMarked, IsNear, IsReadBack, NoneFound, Over}
 
 -- a mark is a dart or the number of darts
 pub marks_low : (m : ListedMap) (names : List ℕ) (v c : ℕ) (marks : List ℕ) → MarkCorners m names v c marks → (x : ℕ) → x < length m.next → at marks x ≤ length m.next

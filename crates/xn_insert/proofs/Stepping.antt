@@ -1,6 +1,5 @@
 -- What the calls on a map need for a step: the two corners are in one face, at two nodes.
-use Rattle.std.proofs.Common.{◌≡◌, ◌≢◌, ℕ, suc, ◌+◌, ◌*◌, ◌/◌, ◌%◌, ◌<◌, inl, inr, true, List, length, refl, sym, ◌∙◌, ap, subst, arith}
-use Rattle.std.proofs.lemmas.Bool.{cases_eq, cond-false, cond-true, eq-eqb, ne_eqb}
+use Rattle.std.proofs.Common.{◌≡◌, ◌≢◌, ℕ, ◌*◌, ◌/◌, ◌<◌, true, length, refl, sym, ◌∙◌, ap, subst, arith}
 use Rattle.xn_model.specs.Lists.{at}
 use Rattle.xn_model.specs.Map.{IsMap, MeetsEuler, face_step, tail_of}
 use Rattle.xn_model.specs.Permutation.{Reaches}

@@ -1,4 +1,4 @@
-use Rattle.std.proofs.Common.{◌≡◌, ℕ, ◌*◌, ◌<◌, ◌≤◌, [], ◌∷◌, List, length, map, set, take, vec_items, sym, ap, subst, ◌∙◌, arith}
+use Rattle.std.proofs.Common.{ℕ, ◌*◌, ◌<◌, ◌≤◌, [], ◌∷◌, List, length, map, set, vec_items, sym, ap, subst, ◌∙◌, arith}
 use Rattle.std.proofs.lemmas.List.{map-append, map-set, take_all}
 use Rattle.xn_list.specs.Lists.{lists_of}
 use Rattle.xn_model.specs.Lists.{at}

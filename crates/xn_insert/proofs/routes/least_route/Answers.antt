@@ -1,5 +1,4 @@
-use Rattle.std.proofs.Common.{◌≡◌, ◌<◌, ◌≤◌, ℕ, List, length, sym, subst, ap, arith}
-use Rattle.xn_model.specs.Lists.{at}
+use Rattle.std.proofs.Common.{length, sym, subst, ap, arith}
 use Rattle.xn_insert.specs.Routed.{MarkCorners, NamesFaces}
 use Rattle.xn_insert.proofs.Nearest.{least_if, marks_low, none_if}
 use Rattle.xn_insert.proofs.routes.least_route.Goals as goal
@@ -52,5 +51,5 @@ returns c =
     record {
       none = none_if map c.web.ensures.is_map names known c.args.u c.args.v c.as_slice.result.now c.as_mut_slice.result.now starts goals c.in_ok-route.route c.in_ok-route.ensures.none;
       some = least_if map c.web.ensures.is_map names known c.args.u c.args.v c.as_slice.result.now c.as_mut_slice.result.now starts goals c.in_ok-route.route (λ r. r.from) (λ r. r.to) (λ r. r.darts.items)
-      c.in_ok-route.ensures.some;
+          c.in_ok-route.ensures.some;
     }
