@@ -1,16 +1,19 @@
 -- A loose drawing of k edges with c crossings has at most k + 2c segments.
-use Rattle.std.proofs.Common.{◌≡◌, ◌≢◌, ℕ, zero, suc, ◌+◌, ◌*◌, ◌/◌, ◌<◌, ◌≤◌, ◌⊎◌, inl, inr, Bool, true, false, ◌&&◌, cond, eqb, leb, ltb, List, [], ◌∷◌, ◌++◌, length, refl, sym, ◌∙◌, ap, arith, length-append}
-use Rattle.std.specs.List.{flat_map}
-use Rattle.std.proofs.lemmas.Bool.{and_from, and_parts, both_ways, cases_Bool, cases_eq, cond-false, cond-true, eq-eqb, le-leb, leb-true, lt-ltb, ltb-true, ne_eqb}
+use Rattle.std.proofs.Common.{◌≡◌, ℕ, zero, suc, ◌+◌, ◌*◌, ◌/◌, ◌^◌, ◌<◌, ◌≤◌, ◌⊎◌, inl, inr, Bool, true, false, ◌&&◌, cond, eqb, leb, ltb, List, [], ◌∷◌, ◌++◌, length, refl, sym, ◌∙◌, ap, arith, length-append}
+use Rattle.std.specs.List.{flat_map, range_with_len}
+use Rattle.std.proofs.lemmas.Bool.{and_from, and_parts, cases_Bool, cases_eq, cond-false, cond-true, eq-eqb, le-leb, leb-true, lt-ltb, ltb-true, ne_eqb}
+use Rattle.std.proofs.lemmas.List.FromFn.{length-range_with_len}
+use Rattle.std.proofs.lemmas.List.Sums.{count_by-le-length, length-filter}
 use Rattle.xn_model.specs.Graph.{Graph, ends_at}
-use Rattle.xn_model.specs.Lists.{has, one_if, total}
-use Rattle.xn_model.specs.Loose.{GoesStraight, IsLoose, dart_count, times_walked}
+use Rattle.xn_model.specs.Lists.{at, has, one_if, total}
+use Rattle.xn_model.specs.Loose.{GoesStraight, IsLoose, times_walked}
 use Rattle.xn_model.specs.Map.{WalksTo, reverse_of, tail_of}
 use Rattle.xn_model.specs.Permutation.{count_below}
 use Rattle.xn_model.proofs.Darts.{cases_dart, reverse-even, reverse-odd}
 use Rattle.xn_ring.proofs.Counting.{count-none}
 use Rattle.xn_genus.proofs.Compress.{tail_in}
 use Rattle.xn_fewer.proofs.Has.{has-first, has-later}
+use Rattle.xn_insert.specs.ListedLoose.{IsLooseOf, ListedLoose, edges_in, has_dart, walk_of}
 use Rattle.xn_insert.proofs.CutWalks.{AreBelow}
 
 -- ---- sums over all segments
@@ -271,3 +274,15 @@ few_segments g edges further web next walks loose =
               let b = ap k second in
               omega (arith, a, b)
         ]
+
+-- so a drawing of at most 1,000 edges with few crossings has few
+pub few_of : (g : Graph) (l : ListedLoose) → IsLooseOf g l → length l.walks ≤ 1000 → l.map.web.nodes ≤ l.nodes + 2 ^ 24 → length l.map.web.ends ≤ 2 ^ 26
+few_of g l is walks nodes =
+    let most = few_segments g (edges_in l) is.further l.map.web (at l.map.next) (walk_of l.walks) is.loose in
+    let edges = range_with_len 0 (length l.walks) in
+    let kept = length-filter (λ e. has_dart (walk_of l.walks e)) edges in
+    let fewer = count_by-le-length (λ e. has_dart (walk_of l.walks e)) edges in
+    let all = length-range_with_len 0 (length l.walks) in
+    let sum = is.loose.nodes in
+    let same = is.nodes in
+    omega (arith, most, kept, fewer, all, walks, nodes, sum, same)

@@ -1,8 +1,7 @@
 -- The faces around a node, the dual web, and where nothing has a name yet.
-use Rattle.std.proofs.Common.{◌≡◌, ◌≢◌, ℕ, ◌+◌, ◌*◌, ◌/◌, ◌^◌, ◌<◌, ◌≤◌, inl, inr, List, [], ◌∷◌, ◌++◌, length, replicate, set, refl, sym, ◌∙◌, ap, subst, arith, length-append}
+use Rattle.std.proofs.Common.{◌≡◌, ◌≢◌, ℕ, ◌+◌, ◌*◌, ◌^◌, ◌<◌, ◌≤◌, inl, inr, List, [], ◌∷◌, ◌++◌, length, replicate, set, refl, sym, ◌∙◌, ap, subst, arith, length-append}
 use Rattle.std.proofs.lemmas.Bool.{cases_eq}
 use Rattle.std.proofs.lemmas.List.{get_or-replicate, get_or-set_other, get_or-set_same, length-replicate, length-set}
-use Rattle.xn_model.specs.Graph.{EndsIn, ends_at}
 use Rattle.xn_model.specs.Lists.{at}
 use Rattle.xn_model.specs.Map.{tail_of}
 use Rattle.xn_model.proofs.Darts.{tail-even, tail-odd, tail-push, tail-push_even, tail-push_odd}

@@ -1,15 +1,15 @@
 -- An edge between two components, on the lists of a map that calls have changed.
-use Rattle.std.proofs.Common.{◌≡◌, ◌≢◌, ℕ, zero, suc, ◌+◌, ◌*◌, ◌<◌, ◌≤◌, inl, inr, Bool, true, false, cond, eqb, List, [], ◌∷◌, ◌++◌, length, set, refl, sym, ◌∙◌, ap, subst, arith, length-append}
+use Rattle.std.proofs.Common.{◌≡◌, ◌≢◌, ℕ, zero, suc, ◌+◌, ◌*◌, ◌^◌, ◌<◌, ◌≤◌, inl, inr, false, cond, eqb, List, [], ◌∷◌, length, set, refl, sym, ◌∙◌, ap, subst, arith, length-append}
 use Rattle.std.proofs.lemmas.Bool.{cases_eq, cond-false, cond-true, eq-eqb, ne_eqb}
 use Rattle.std.proofs.lemmas.List.{get_or-set_other, get_or-set_same, length-set}
 use Rattle.xn_model.specs.Graph.{Graph, ends_at}
 use Rattle.xn_model.specs.Lists.{at, has}
-use Rattle.xn_model.specs.Loose.{GoesStraight, IsLoose, IsRoute, IsRouteLength}
+use Rattle.xn_model.specs.Loose.{GoesStraight, IsLoose}
 use Rattle.xn_model.specs.Map.{IsMap, Joined, MeetsEuler, WalksTo, reverse_of, tail_of}
 use Rattle.xn_model.proofs.Darts.{reverse_below}
 use Rattle.xn_genus.proofs.Kept.{EndsIn_at}
 use Rattle.xn_surgery.specs.Corners as laws
-use Rattle.xn_map.specs.Changes.{Inserts, corner_of, node_of}
+use Rattle.xn_map.specs.Changes.{Inserts, StaysFlat, corner_of, node_of}
 use Rattle.xn_map.specs.Corners.{IsCorner}
 use Rattle.xn_map.specs.Listed.{IsListedMap, ListedMap}
 use Rattle.xn_map.specs.declared.corners.Corner.{Corner}
@@ -20,7 +20,7 @@ use Rattle.xn_loose.proofs.RoutesThere.{routes_are_there}
 use Rattle.xn_loose.proofs.Shortest.{simple_crosses}
 use Rattle.xn_loose.proofs.Within.{faces_have_names}
 use Rattle.xn_insert.specs.Calls.{IsInserted}
-use Rattle.xn_insert.specs.ListedLoose.{IsLooseOf, ListedLoose, edges_in, has_dart, loose_of, walk_of}
+use Rattle.xn_insert.specs.ListedLoose.{IsLooseOf, ListedLoose, edges_in, loose_of, walk_of}
 use Rattle.xn_insert.specs.Routed.{HasNoRoute}
 use Rattle.xn_insert.proofs.CutWalks.{none_cut}
 use Rattle.xn_insert.proofs.Ended.{edges_then}
@@ -148,3 +148,42 @@ module _ (g : Graph) (l : ListedLoose) (is : IsLooseOf g l) (e : ℕ) (e_low : e
           nothing : (t : ℕ) → at [] t ≡ 0
           nothing zero = refl
           nothing (suc t) = refl
+
+-- ---- the call
+
+-- e may come in between two components
+pub record MayJoin (g : Graph) (e : ℕ) (l : ListedLoose) : Type 0 where
+  pub loose : IsLooseOf g l
+  pub edge : e < length g.ends
+  pub new_edge : has (edges_in l) e ≡ false
+  pub few : l.map.web.nodes ≤ l.nodes + 2 ^ 24
+  pub none : HasNoRoute l.map (ends_at g.ends e).0 (ends_at g.ends e).1
+
+pub may_join : (g : Graph) (e : ℕ) (l old : ListedLoose) → l ≡ old → IsLooseOf g old → e < length g.ends → has (edges_in old) e ≡ false → old.map.web.nodes ≤ old.nodes + 2 ^ 24 →
+    HasNoRoute old.map (ends_at g.ends e).0 (ends_at g.ends e).1 → MayJoin g e l
+may_join g e l old same loose edge new_edge few none = subst (MayJoin g e) (sym same) (record { loose = loose; edge = edge; new_edge = new_edge; few = few; none = none })
+
+module _ (g : Graph) (e : ℕ) (l : ListedLoose) (may : MayJoin g e l) (p : ℕ × ℕ) (p_is : p ≡ ends_at g.ends e) where
+  pub are_nodes : (p.0 < l.map.web.nodes) × (p.1 < l.map.web.nodes)
+  are_nodes = subst (λ q. (q.0 < l.map.web.nodes) × (q.1 < l.map.web.nodes)) (sym p_is) (ends_low g l may.loose e may.edge may.new_edge may.none)
+
+  module _ (from to : Corner) (at_from : node_of l.map from ≡ p.0) (at_to : node_of l.map to ≡ p.1) where
+    from_is : node_of l.map from ≡ (ends_at g.ends e).0
+    from_is = at_from ∙ ap (λ q. q.0) p_is
+
+    to_is : node_of l.map to ≡ (ends_at g.ends e).1
+    to_is = at_to ∙ ap (λ q. q.1) p_is
+
+    pub nodes_differ : node_of l.map from ≢ node_of l.map to
+    nodes_differ same = may.loose.loose.is_graph.no_loop e may.edge (sym from_is ∙ same ∙ to_is)
+
+    pub nodes_apart : Joined l.map.web.ends (node_of l.map from) (node_of l.map to) → ⊥
+    nodes_apart there =
+        let J : ℕ → ℕ → Type 0 = λ x y. Joined l.map.web.ends x y in
+        not_joined g l may.loose e may.edge may.new_edge may.none (subst (J (ends_at g.ends e).0) to_is (subst (λ x. J x (node_of l.map to)) from_is there))
+
+    pub inserted_then : IsListedMap l.map → IsCorner l.map from → IsCorner l.map to → (m : ListedMap) → Inserts l.map from to m → IsListedMap m → StaysFlat l.map m → (own : List ℕ) →
+        own ≡ (2 * length l.map.web.ends) ∷ [] → IsInserted g e l (loose_of l.nodes m (set l.walks e own))
+    inserted_then listed from_in to_in m inserts new_map flat own own_is =
+        subst (λ ds. IsInserted g e l (loose_of l.nodes m (set l.walks e ds))) (sym own_is)
+        (joined_inserted g l may.loose e may.edge may.new_edge may.none listed from to from_in to_in from_is to_is m inserts new_map (flat may.loose.loose.is_flat_map.flat))

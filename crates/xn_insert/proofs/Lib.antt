@@ -1,9 +1,12 @@
 pub mod Coming
 pub mod Counted
+pub mod CutLists
 pub mod CutWalks
+pub mod Duals
 pub mod Ended
 pub mod FaceWalks
 pub mod FacesAround
+pub mod Fronts
 pub mod Grown
 pub mod Joined
 pub mod Nearest

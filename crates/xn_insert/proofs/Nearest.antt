@@ -1,17 +1,24 @@
 -- The nearest start gives a least route.
-use Rattle.std.proofs.Common.{◌≡◌, ◌≢◌, ℕ, zero, suc, ◌*◌, ◌<◌, ◌≤◌, inl, inr, true, List, [], ◌∷◌, length, refl, sym, ◌∙◌, ap, subst, arith}
+use Rattle.std.proofs.Common.{◌≡◌, ℕ, zero, suc, ◌*◌, ◌<◌, ◌≤◌, inl, inr, true, List, [], ◌∷◌, length, refl, sym, ◌∙◌, ap, subst, arith}
+use Rattle.std.specs.Prelude.{IfNone, IfSome, None, Option, Some}
 use Rattle.xn_model.specs.Lists.{at}
-use Rattle.xn_model.specs.Loose.{CrossesTo, IsRoute, IsRouteLength}
-use Rattle.xn_model.specs.Map.{IsMap, face_step, reverse_of, tail_of}
-use Rattle.xn_model.specs.Permutation.{Reaches}
+use Rattle.xn_model.specs.Loose.{CrossesTo}
+use Rattle.xn_model.specs.Map.{IsMap, reverse_of, tail_of}
 use Rattle.xn_model.proofs.Darts.{reverse_below}
 use Rattle.xn_ring.proofs.Orbits.{source_of}
 use Rattle.xn_map.specs.Listed.{IsListedMap, ListedMap}
-use Rattle.xn_loose.specs.Routes.{AreFaceNames, RouteOf}
+use Rattle.xn_loose.specs.Routes.{RouteOf}
 use Rattle.xn_loose.proofs.RoutesThere.{Route}
 use Rattle.xn_loose.proofs.Shortest.{by_names_crosses, least_once, same_name}
 use Rattle.xn_insert.specs.Routed.{HasNoRoute, IsCornerIn, IsLeastRoute, MarkCorners, NamesFaces}
-use Rattle.xn_insert.specs.Search.{ChainEnds, IsChain, IsFound, IsMarked, IsNear, IsReadBack, LeadsBy, NoneFound, Over}
+use Rattle.xn_insert.specs.Search.{IsFound, IsFoundRoute, IsMarked, IsNear, IsReadBack, NoneFound, Over}
+
+-- a mark is a dart or the number of darts
+pub marks_low : (m : ListedMap) (names : List ℕ) (v c : ℕ) (marks : List ℕ) → MarkCorners m names v c marks → (x : ℕ) → x < length m.next → at marks x ≤ length m.next
+marks_low m names v c marks mark x low = elim (mark.sound x low) [
+  | inl none ↦ omega (arith, none)
+  | inr some ↦ let dart = some.0 in omega (arith, dart)
+]
 
 module _ (m : ListedMap) (is : IsListedMap m) (names : List ℕ) (known : NamesFaces m names) (u v : ℕ) (starts goals : List ℕ)
     (at_u : MarkCorners m names u (length m.next) starts) (at_v : MarkCorners m names v (length m.next) goals) where
@@ -122,3 +129,15 @@ module _ (m : ListedMap) (is : IsListedMap m) (names : List ℕ) (known : NamesF
         };
         few = let few = found.few in omega (arith, few, long, size);
       }
+
+  -- what a search by names answers
+  pub least_if : {X : Type 0} (route : Option X) (from to : X → ℕ) (darts : X → List ℕ) → IfSome route (λ r. IsFoundRoute names goals starts (from r) (darts r) (to r)) →
+      IfSome route (λ r. IsLeastRoute m u v (from r) (darts r) (to r))
+  least_if None from to darts some = tt
+  least_if (Some r) from to darts some =
+      let is_least = least_route some.by some.first some.steps some.found (darts r) some.last some.back in
+      subst (λ a. IsLeastRoute m u v a (darts r) (to r)) (sym some.from_is) (subst (λ b. IsLeastRoute m u v (at starts some.first) (darts r) b) (sym some.to_is) is_least)
+
+  pub none_if : {X : Type 0} (route : Option X) → IfNone route (NoneFound names goals starts) → IfNone route (HasNoRoute m u v)
+  none_if None none = no_route none
+  none_if (Some r) none = tt

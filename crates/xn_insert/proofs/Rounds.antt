@@ -6,8 +6,7 @@ use Rattle.xn_model.specs.Lists.{at, has, one_if, total}
 use Rattle.xn_model.specs.Map.{reverse_of}
 use Rattle.xn_model.proofs.Darts.{reverse-reverse}
 use Rattle.xn_fewer.proofs.Has.{has-append, has-first, has-left, has-right}
-use Rattle.xn_track.proofs.Places.{has-at}
-use Rattle.xn_insert.specs.Search.{AreNextMet, ChainEnds, IsChain, IsFound, IsMarked, IsNear, IsPassed, IsReadBack, IsRound, IsSearched, LeadsBy, ListsMarked, NoneFound, Over, unmet}
+use Rattle.xn_insert.specs.Search.{ChainEnds, IsChain, IsFound, IsMarked, IsNear, IsPassed, IsRound, IsSearched, LeadsBy, ListsMarked, NoneFound, unmet}
 
 -- ---- counts
 
@@ -27,7 +26,7 @@ unmet-most n (c ∷ cs) =
     bit true = omega arith
     bit false = omega arith
 
-not_listed : (x : ℕ) → has [] x ≡ true → ⊥
+pub not_listed : (x : ℕ) → has [] x ≡ true → ⊥
 not_listed x h = both_ways false refl h
 
 module _ (names : List ℕ) (below : (d : ℕ) → d < length names → at names d < length names) (rev_in : (d : ℕ) → d < length names → reverse_of d < length names) where
@@ -122,12 +121,14 @@ module _ (names : List ℕ) (below : (d : ℕ) → d < length names → at names
 
         leads_on : (k x : ℕ) → LeadsBy names goals by k x → LeadsBy names goals by' k x
         leads_on k x leads =
-            let c = chain_on k x leads.0 in
-            (c.0, λ y ends.
-            let e = leads.1 y (c.1 y ends) in
-            let goal = e.0 in
-            let same = e.1 in
-            (goal, round.kept y (omega (arith, same, goal)) ∙ same))
+            let c = chain_on k x leads.0 in (
+              c.0,
+              λ y ends.
+                  let e = leads.1 y (c.1 y ends) in
+                  let goal = e.0 in
+                  let same = e.1 in
+                  (goal, round.kept y (omega (arith, same, goal)) ∙ same),
+            )
 
         leads_next : (x : ℕ) → has next x ≡ true → LeadsBy names goals by' (suc r) x
         leads_next x h =
@@ -244,7 +245,7 @@ module _ (names : List ℕ) (below : (d : ℕ) → d < length names → at names
                   | inr high ↦ let most = old_bound y y_in in omega (arith, high, most)
                 ] in
                 let P : ℕ → Type 0 = λ z. (z < n) × (at old z ≡ n) × IsMarked names (set by y (reverse_of d)) z × (at names (at (set by y (reverse_of d)) z) ≡ z)
-                    × (has front (at names (reverse_of (at (set by y (reverse_of d)) z))) ≡ true) in
+                × (has front (at names (reverse_of (at (set by y (reverse_of d)) z))) ≡ true) in
                 subst P (sym at_y) (y_in, was_new, (omega (arith, here, r_in)), ap (at names) here, ap (λ c. has front (at names (reverse_of c))) here ∙ front_of_y)
             | inr other ↦
                 let was : has next x ≡ true = elim (has-append next (y ∷ []) x h) [ inl a ↦ a | inr b ↦ absurd (other (sym (only_one y x b))) ] in

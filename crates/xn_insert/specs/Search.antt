@@ -87,3 +87,14 @@ pub record IsFound (names goals starts by : List ℕ) (x r : ℕ) : Type 0 where
   pub leads : LeadsBy names goals by r x
   pub least : (k y : ℕ) → IsNear names goals k y → IsMarked names starts y → r ≤ k
   pub few : r ≤ length names
+
+-- a start with the dart of its mark, the darts that lead from there to a goal, and the dart of that goal's mark
+pub record IsFoundRoute (names goals starts : List ℕ) (from : ℕ) (darts : List ℕ) (to : ℕ) : Type 0 where
+  pub by : List ℕ
+  pub first : ℕ
+  pub steps : ℕ
+  pub last : ℕ
+  pub found : IsFound names goals starts by first steps
+  pub back : IsReadBack names by steps first darts last
+  pub from_is : from ≡ at starts first
+  pub to_is : to ≡ at by last

@@ -71,7 +71,11 @@ pub fn on_of(last: u32, d: u32) -> u32
     requires { last < 2 ^ 30 }
     ensures { result ≡ dart_on last d }
 {
-    if d % 2 == 0 { 2 * last } else { 2 * (d / 2) + 1 }
+    if d % 2 == 0 {
+        2 * last
+    } else {
+        2 * (d / 2) + 1
+    }
 }
 
 // The dart that leads back there.
@@ -80,7 +84,11 @@ fn back_of(last: u32, d: u32) -> u32
     requires d { d < 2 ^ 31 }
     ensures { result ≡ dart_back last d }
 {
-    if d % 2 == 0 { 2 * (d / 2) + 1 } else { 2 * last }
+    if d % 2 == 0 {
+        2 * (d / 2) + 1
+    } else {
+        2 * last
+    }
 }
 
 /// The walks once the segments with a second part are cut, and that of e is its own.

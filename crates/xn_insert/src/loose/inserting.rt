@@ -88,6 +88,8 @@ impl Loose {
         let own = [2 * self.map.web().segments()].to_vec(alloc)?;
         let (from, to) = (corner_of(&self.map, u), corner_of(&self.map, v));
         self.map.add_edge(from, to)?;
+        // it is a map still
+        self.map.web();
         self.walks.put(e, own);
         Ok(())
     }
