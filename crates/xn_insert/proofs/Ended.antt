@@ -90,74 +90,75 @@ module _ (g : Graph) (l : ListedLoose) (is : IsLooseOf g l) (e : ℕ) (e_low : e
       let tests : (λ x. has_dart (walk_of walks x)) ≡ (λ x. has_dart (walk_of l.walks x) || eqb x e) = λ i x. same x i in
       ap (λ t. filter t (range_with_len 0 (length walks))) tests ∙ ap (λ k. filter (λ x. has_dart (walk_of l.walks x) || eqb x e) (range_with_len 0 k)) size
 
-  module _ (m : ListedMap) (from to : ℕ) (cuts own : List ℕ) (done : ℕ) (st : GrownTo g l e m from to cuts own [] done) (m' : ListedMap) (inserts : Inserts m (After from) (After to) m') where
-    two : tail_of m.web.ends st.y ≢ tail_of m.web.ends st.z
-    two = apart g l is e e_low new_edge m from to cuts own [] done st
-
-    abbrev names : ℕ → ℕ
-    names = within.names2 m.web.nodes m.web.ends (at m.next) st.name st.whole st.state.is_flat_map.is_map st.state.is_flat_map.flat st.state.faces st.y st.z st.state.y_in st.z_in st.route.0 (sym st.route.1) two
-        from to st.from_in st.to_in st.to_y st.to_z m'.web.ends (at m'.next) inserts.1
-
-    W : IsWithin m.web.nodes m.web.ends (at m.next) st.name st.whole st.y st.z m'.web.ends (at m'.next) names
-    W = within.is_within m.web.nodes m.web.ends (at m.next) st.name st.whole st.state.is_flat_map.is_map st.state.is_flat_map.flat st.state.faces st.y st.z st.state.y_in st.z_in st.route.0 (sym st.route.1) two
-        from to st.from_in st.to_in st.to_y st.to_z m'.web.ends (at m'.next) inserts.1
-
-    -- the corners are in one face, at two nodes
+  module _ (m : ListedMap) (from to : ℕ) (cuts own : List ℕ) (done : ℕ) (st : GrownTo g l e m from to cuts own [] done) where
+    -- the corners are in one face
     pub last_face : Reaches (face_step (at m.next)) (at m.next from) (at m.next to)
     last_face =
         let there = st.state.faces.one st.y st.z st.state.y_in st.z_in st.route.0 (sym st.route.1) in
         subst (λ x. Reaches (face_step (at m.next)) x (at m.next to)) (sym st.to_y) (subst (Reaches (face_step (at m.next)) st.y) (sym st.to_z) there)
 
-    abbrev own' : List ℕ
-    own' = own ++ (2 * length m.web.ends) ∷ []
+    module _ (m' : ListedMap) (inserts : Inserts m (After from) (After to) m') where
+      two : tail_of m.web.ends st.y ≢ tail_of m.web.ends st.z
+      two = apart g l is e e_low new_edge m from to cuts own [] done st
 
-    abbrev web' : Graph
-    web' = record { nodes = m.web.nodes; ends = m'.web.ends }
+      abbrev names : ℕ → ℕ
+      names = within.names2 m.web.nodes m.web.ends (at m.next) st.name st.whole st.state.is_flat_map.is_map st.state.is_flat_map.flat st.state.faces st.y st.z st.state.y_in st.z_in st.route.0 (sym st.route.1) two
+          from to st.from_in st.to_in st.to_y st.to_z m'.web.ends (at m'.next) inserts.1
 
-    abbrev four' : ℕ → Bool
-    four' = ins.four' g (edges g l is e e_low new_edge) (all g l is e e_low new_edge) e (is_graph g l is e e_low new_edge) (list g l is e e_low new_edge) (more_edges g l is e e_low new_edge) e_low
-        m.web (at m.next) st.four st.name st.whole st.y st.b st.q (cut g l is e e_low new_edge cuts) own st.state st.z st.z_in st.at_z m'.web.ends (at m'.next) names W
+      W : IsWithin m.web.nodes m.web.ends (at m.next) st.name st.whole st.y st.z m'.web.ends (at m'.next) names
+      W = within.is_within m.web.nodes m.web.ends (at m.next) st.name st.whole st.state.is_flat_map.is_map st.state.is_flat_map.flat st.state.faces st.y st.z st.state.y_in st.z_in st.route.0 (sym st.route.1) two
+          from to st.from_in st.to_in st.to_y st.to_z m'.web.ends (at m'.next) inserts.1
 
-    abbrev walks' : ℕ → List ℕ
-    walks' = with_walk (cut g l is e e_low new_edge cuts) e own'
+      abbrev own' : List ℕ
+      own' = own ++ (2 * length m.web.ends) ∷ []
 
-    track : IsTrack g (all g l is e e_low new_edge) web' (at m'.next) four' walks'
-    track = ins.ended_track g (edges g l is e e_low new_edge) (all g l is e e_low new_edge) e (is_graph g l is e e_low new_edge) (list g l is e e_low new_edge) (more_edges g l is e e_low new_edge) e_low
-        m.web (at m.next) st.four st.name st.whole st.y st.b st.q (cut g l is e e_low new_edge cuts) own st.state st.z st.z_in st.at_z m'.web.ends (at m'.next) names W
+      abbrev web' : Graph
+      web' = record { nodes = m.web.nodes; ends = m'.web.ends }
 
-    loose' : IsLoose g (all g l is e e_low new_edge) (is.further + done) web' (at m'.next) walks'
-    loose' =
-        let full = ins.fullness g (edges g l is e e_low new_edge) (all g l is e e_low new_edge) e (is_graph g l is e e_low new_edge) (list g l is e e_low new_edge) (more_edges g l is e e_low new_edge) e_low
-        m.web (at m.next) st.four st.name st.whole st.y st.b st.q (cut g l is e e_low new_edge cuts) own st.state st.z st.z_in st.at_z m'.web.ends (at m'.next) names W st.exact in
-        let was = is.loose.nodes in
-        let grown = st.nodes in
-        loose_from_track g (all g l is e e_low new_edge) (is.further + done) web' (at m'.next) four' walks' (is_graph g l is e e_low new_edge) track (omega (arith, was, grown)) full.all_four full.have_darts full.all_walked
+      abbrev four' : ℕ → Bool
+      four' = ins.four' g (edges g l is e e_low new_edge) (all g l is e e_low new_edge) e (is_graph g l is e e_low new_edge) (list g l is e e_low new_edge) (more_edges g l is e e_low new_edge) e_low
+          m.web (at m.next) st.four st.name st.whole st.y st.b st.q (cut g l is e e_low new_edge cuts) own st.state st.z st.z_in st.at_z m'.web.ends (at m'.next) names W
 
-    once' : EachMeetsOnce (all g l is e e_low new_edge) m'.web.ends walks'
-    once' x x_in = distinct_if_once m'.web.ends (walks' x) (λ k.
-        ins.single'' g (edges g l is e e_low new_edge) (all g l is e e_low new_edge) e (is_graph g l is e e_low new_edge) (list g l is e e_low new_edge) (more_edges g l is e e_low new_edge) e_low
-        m.web (at m.next) st.four st.name st.whole st.y st.b st.q (cut g l is e e_low new_edge cuts) own st.state st.z st.z_in st.at_z m'.web.ends (at m'.next) names W st.single x k x_in)
+      abbrev walks' : ℕ → List ℕ
+      walks' = with_walk (cut g l is e e_low new_edge cuts) e own'
 
-    pub grown_inserted : IsRouteLength l.map.web.ends (at l.map.next) (u g l is e e_low new_edge) (v g l is e e_low new_edge) done → (walks : List (List ℕ)) → AreCut cuts e own' l.walks walks →
-        IsInserted g e l (loose_of l.nodes m' walks)
-    grown_inserted least walks are =
-        let new = loose_of l.nodes m' walks in
-        let es = edges_then cuts own' m' walks (has_last own (2 * length m.web.ends)) are in
-        let ws : walks' ≡ walk_of walks = λ i x. sym (are.each x) i in
-        let web_is : web' ≡ m'.web = ap (λ k. record { nodes = k; ends = m'.web.ends }) (sym inserts.0) in
-        let loose1 = subst (λ web. IsLoose g (all g l is e e_low new_edge) (is.further + done) web (at m'.next) walks') web_is loose' in
-        let loose2 = subst (λ f. IsLoose g (all g l is e e_low new_edge) (is.further + done) m'.web (at m'.next) f) ws loose1 in
-        let once2 = subst (λ f. EachMeetsOnce (all g l is e e_low new_edge) m'.web.ends f) ws once' in
-        let nodes : m'.web.nodes ≡ l.map.web.nodes + done = inserts.0 ∙ st.nodes in
-        record {
-          one_more = subst (IsOneMore (length g.ends) (edges_in l) e) (sym es) (more_edges g l is e e_low new_edge);
-          loose = record {
-            nodes = is.nodes;
-            lists = are.size ∙ is.lists;
-            further = is.further + done;
-            loose = subst (λ xs. IsLoose g xs (is.further + done) m'.web (at m'.next) (walk_of walks)) (sym es) loose2;
-            once = subst (λ xs. EachMeetsOnce xs m'.web.ends (walk_of walks)) (sym es) once2;
-          };
-          joined = λ r other. let same = one_length l.map.web.ends (at l.map.next) _ _ r done other least in omega (arith, same, nodes);
-          apart = λ far. let some = least.route in absurd (far (route_joins l.map.web.nodes l.map.web.ends (at l.map.next) is.loose.is_flat_map.is_map _ _ some.0 some.1));
-        }
+      track : IsTrack g (all g l is e e_low new_edge) web' (at m'.next) four' walks'
+      track = ins.ended_track g (edges g l is e e_low new_edge) (all g l is e e_low new_edge) e (is_graph g l is e e_low new_edge) (list g l is e e_low new_edge) (more_edges g l is e e_low new_edge) e_low
+          m.web (at m.next) st.four st.name st.whole st.y st.b st.q (cut g l is e e_low new_edge cuts) own st.state st.z st.z_in st.at_z m'.web.ends (at m'.next) names W
+
+      loose' : IsLoose g (all g l is e e_low new_edge) (is.further + done) web' (at m'.next) walks'
+      loose' =
+          let full = ins.fullness g (edges g l is e e_low new_edge) (all g l is e e_low new_edge) e (is_graph g l is e e_low new_edge) (list g l is e e_low new_edge) (more_edges g l is e e_low new_edge) e_low
+          m.web (at m.next) st.four st.name st.whole st.y st.b st.q (cut g l is e e_low new_edge cuts) own st.state st.z st.z_in st.at_z m'.web.ends (at m'.next) names W st.exact in
+          let was = is.loose.nodes in
+          let grown = st.nodes in
+          loose_from_track g (all g l is e e_low new_edge) (is.further + done) web' (at m'.next) four' walks' (is_graph g l is e e_low new_edge) track (omega (arith, was, grown)) full.all_four full.have_darts full.all_walked
+
+      once' : EachMeetsOnce (all g l is e e_low new_edge) m'.web.ends walks'
+      once' x x_in = distinct_if_once m'.web.ends (walks' x) (λ k.
+          ins.single'' g (edges g l is e e_low new_edge) (all g l is e e_low new_edge) e (is_graph g l is e e_low new_edge) (list g l is e e_low new_edge) (more_edges g l is e e_low new_edge) e_low
+          m.web (at m.next) st.four st.name st.whole st.y st.b st.q (cut g l is e e_low new_edge cuts) own st.state st.z st.z_in st.at_z m'.web.ends (at m'.next) names W st.single x k x_in)
+
+      pub grown_inserted : IsRouteLength l.map.web.ends (at l.map.next) (u g l is e e_low new_edge) (v g l is e e_low new_edge) done → (walks : List (List ℕ)) → AreCut cuts e own' l.walks walks →
+          IsInserted g e l (loose_of l.nodes m' walks)
+      grown_inserted least walks are =
+          let new = loose_of l.nodes m' walks in
+          let es = edges_then cuts own' m' walks (has_last own (2 * length m.web.ends)) are in
+          let ws : walks' ≡ walk_of walks = λ i x. sym (are.each x) i in
+          let web_is : web' ≡ m'.web = ap (λ k. record { nodes = k; ends = m'.web.ends }) (sym inserts.0) in
+          let loose1 = subst (λ web. IsLoose g (all g l is e e_low new_edge) (is.further + done) web (at m'.next) walks') web_is loose' in
+          let loose2 = subst (λ f. IsLoose g (all g l is e e_low new_edge) (is.further + done) m'.web (at m'.next) f) ws loose1 in
+          let once2 = subst (λ f. EachMeetsOnce (all g l is e e_low new_edge) m'.web.ends f) ws once' in
+          let nodes : m'.web.nodes ≡ l.map.web.nodes + done = inserts.0 ∙ st.nodes in
+          record {
+            one_more = subst (IsOneMore (length g.ends) (edges_in l) e) (sym es) (more_edges g l is e e_low new_edge);
+            loose = record {
+              nodes = is.nodes;
+              lists = are.size ∙ is.lists;
+              further = is.further + done;
+              loose = subst (λ xs. IsLoose g xs (is.further + done) m'.web (at m'.next) (walk_of walks)) (sym es) loose2;
+              once = subst (λ xs. EachMeetsOnce xs m'.web.ends (walk_of walks)) (sym es) once2;
+            };
+            joined = λ r other. let same = one_length l.map.web.ends (at l.map.next) _ _ r done other least in omega (arith, same, nodes);
+            apart = λ far. let some = least.route in absurd (far (route_joins l.map.web.nodes l.map.web.ends (at l.map.next) is.loose.is_flat_map.is_map _ _ some.0 some.1));
+          }

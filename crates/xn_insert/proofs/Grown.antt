@@ -78,6 +78,7 @@ pub record GrownTo (g : Graph) (l : ListedLoose) (e : ℕ) (m : ListedMap) (from
   pub left_in : AreBelow (2 * length l.map.web.ends) left
   pub cuts_size : length cuts ≡ length l.map.web.ends
   pub cuts_high : (s : ℕ) → (at cuts s ≡ 0) ⊎ (length l.map.web.ends ≤ at cuts s)
+  pub cuts_few : (s : ℕ) → at cuts s ≤ length m.web.ends
   pub cut_sides : (s : ℕ) → s < length l.map.web.ends → at cuts s ≢ 0 → (whole (name (2 * s)) ≡ false) ⊎ (whole (name (2 * s + 1)) ≡ false)
   pub own_high : AreBeyond (2 * length l.map.web.ends) own
   pub segments : length m.web.ends ≡ length l.map.web.ends + 2 * done
@@ -157,7 +158,7 @@ module _ (g : Graph) (l : ListedLoose) (is : IsLooseOf g l) (e : ℕ) (e_low : e
 
   -- ---- all walks are over the segments that are there
 
-  walks_below : (x : ℕ) → AreBelow (2 * count) (w x)
+  pub walks_below : (x : ℕ) → AreBelow (2 * count) (w x)
   walks_below x = elim (cases_Bool (has_dart (w x))) [
     | inl some ↦ walk_below l.map.web.ends (ends_at g.ends x).0 (ends_at g.ends x).1 (w x) (is.loose.lead x (walked_edge x some))
     | inr none ↦ subst (AreBelow (2 * count)) (sym (of_dart (w x) none)) tt
@@ -215,6 +216,7 @@ module _ (g : Graph) (l : ListedLoose) (is : IsLooseOf g l) (e : ℕ) (e_low : e
         left_in = below_from ds (λ i low. let d_in = r.darts_in i low in omega (arith, d_in, fits));
         cuts_size = ap length cuts_are ∙ length-replicate count 0;
         cuts_high = λ s. inl (none s);
+        cuts_few = λ s. let is_none = none s in omega (arith, is_none);
         cut_sides = λ s s_in some. absurd (some (none s));
         own_high = tt;
         segments = omega arith;
@@ -379,9 +381,9 @@ module _ (g : Graph) (l : ListedLoose) (is : IsLooseOf g l) (e : ℕ) (e_low : e
       new_state =
           let base = stepped g edges u m.web next st.four st.name st.whole st.y st.b st.q (cut cuts) own st.state d d_in m'.web.ends (at m'.next) names A in
           let P : Graph → Type 0 = λ web. State g edges u web (at m'.next) four' names whole' (dart_back last d) (2 * suc last + 1) (dart_on last d) (λ x. ex (d / 2) (length m.web.ends) (cut cuts x))
-              (ex (d / 2) (length m.web.ends) own ++ (2 * suc (length m.web.ends)) ∷ []) in
+          (ex (d / 2) (length m.web.ends) own ++ (2 * suc (length m.web.ends)) ∷ []) in
           let Q : (ℕ → List ℕ) → Type 0 = λ f. State g edges u m'.web (at m'.next) four' names whole' (dart_back last d) (2 * suc last + 1) (dart_on last d) f
-              (ex (d / 2) (length m.web.ends) own ++ (2 * suc (length m.web.ends)) ∷ []) in
+          (ex (d / 2) (length m.web.ends) own ++ (2 * suc (length m.web.ends)) ∷ []) in
           let R : List ℕ → Type 0 = λ o. State g edges u m'.web (at m'.next) four' names whole' (dart_back last d) (2 * suc last + 1) (dart_on last d) (cut cuts') o in
           subst R own_is (subst Q walks_are (subst P web_is base))
 
@@ -389,7 +391,7 @@ module _ (g : Graph) (l : ListedLoose) (is : IsLooseOf g l) (e : ℕ) (e_low : e
       new_exact =
           let base = exact_stepped g edges u m.web next st.four st.name st.whole st.y st.b st.q (cut cuts) own st.state d d_in m'.web.ends (at m'.next) names A st.exact in
           let P : Graph → Type 0 = λ web. Exact g.nodes edges web four' (dart_back last d) (λ x. ex (d / 2) (length m.web.ends) (cut cuts x))
-              (ex (d / 2) (length m.web.ends) own ++ (2 * suc (length m.web.ends)) ∷ []) in
+          (ex (d / 2) (length m.web.ends) own ++ (2 * suc (length m.web.ends)) ∷ []) in
           let Q : (ℕ → List ℕ) → Type 0 = λ f. Exact g.nodes edges m'.web four' (dart_back last d) f (ex (d / 2) (length m.web.ends) own ++ (2 * suc (length m.web.ends)) ∷ []) in
           let R : List ℕ → Type 0 = λ o. Exact g.nodes edges m'.web four' (dart_back last d) (cut cuts') o in
           subst R own_is (subst Q walks_are (subst P web_is base))
@@ -398,7 +400,7 @@ module _ (g : Graph) (l : ListedLoose) (is : IsLooseOf g l) (e : ℕ) (e_low : e
       new_single =
           let base = single_stepped g edges distinct u m.web next st.four st.name st.whole st.y st.b st.q (cut cuts) own st.state d d_in m'.web.ends (at m'.next) names A is_whole one_name st.single in
           let P : Graph → Type 0 = λ web. Single edges web names whole' (dart_back last d) (λ x. ex (d / 2) (length m.web.ends) (cut cuts x))
-              (ex (d / 2) (length m.web.ends) own ++ (2 * suc (length m.web.ends)) ∷ []) in
+          (ex (d / 2) (length m.web.ends) own ++ (2 * suc (length m.web.ends)) ∷ []) in
           let Q : (ℕ → List ℕ) → Type 0 = λ f. Single edges m'.web names whole' (dart_back last d) f (ex (d / 2) (length m.web.ends) own ++ (2 * suc (length m.web.ends)) ∷ []) in
           let R : List ℕ → Type 0 = λ o. Single edges m'.web names whole' (dart_back last d) (cut cuts') o in
           subst R own_is (subst Q walks_are (subst P web_is base))
@@ -447,6 +449,9 @@ module _ (g : Graph) (l : ListedLoose) (is : IsLooseOf g l) (e : ℕ) (e_low : e
       now_low : (x : ℕ) → x < 2 * last → dart_now s last x < 2 * length m'.web.ends
       now_low x x_in = let c = now_cases s last x in let size = size' in omega (arith, c, x_in, size)
 
+      cuts_now : (t : ℕ) → t ≡ s → at cuts' t ≡ last
+      cuts_now t same = let size = st.cuts_size in let low = s_low in ap (at cuts') same ∙ get_or-set_same cuts s last 0 (omega (arith, low, size))
+
       pub grown_more : GrownTo g l e m' (dart_on (length m.web.ends) d) (dart_now (d / 2) (length m.web.ends) to) (set cuts (d / 2) (length m.web.ends)) (own ++ (2 * length m.web.ends + 2) ∷ []) left (done + 1)
       grown_more = record {
         four = four';
@@ -472,16 +477,15 @@ module _ (g : Graph) (l : ListedLoose) (is : IsLooseOf g l) (e : ℕ) (e_low : e
         left_in = st.left_in.1;
         cuts_size = length-set cuts s last ∙ st.cuts_size;
         cuts_high = λ t. elim (cases_eq t s) [
-          | inl same ↦
-              let size = st.cuts_size in
-              let low = s_low in
-              let now : at cuts' t ≡ last = ap (at cuts') same ∙ get_or-set_same cuts s last 0 (omega (arith, low, size)) in
-              let high = last_high in
-              inr (omega (arith, now, high))
+          | inl same ↦ let now = cuts_now t same in let high = last_high in inr (omega (arith, now, high))
           | inr other ↦ elim (st.cuts_high t) [
             | inl none ↦ inl (get_or-set_other cuts s t last 0 other ∙ none)
             | inr far ↦ let was : at cuts' t ≡ at cuts t = get_or-set_other cuts s t last 0 other in inr (omega (arith, was, far))
           ]
+        ];
+        cuts_few = λ t. let size = size' in elim (cases_eq t s) [
+          | inl same ↦ let now = cuts_now t same in omega (arith, now, size)
+          | inr other ↦ let was = get_or-set_other cuts s t last 0 other in let few = st.cuts_few t in omega (arith, was, few, size)
         ];
         cut_sides = sides;
         own_high = beyond_more (2 * count) (2 * last + 2) own st.own_high (let high = last_high in omega (arith, high));

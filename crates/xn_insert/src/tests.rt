@@ -1,9 +1,12 @@
-//! Two nodes and the edge between them.
+//! Two nodes and the edge between them, and edges that come in one after the other.
+ghost use Rattle.std.specs.Prelude.{◌≡◌, [], IfOk};
+ghost use Rattle.xn_insert.specs.ListedLoose.{IsLooseOf, edges_in};
+
 use super::*;
 use std::alloc::Global;
 use std::process::Abort;
 use std::test::Fail;
-use xn_graph::Graph;
+use xn_graph::{Graph, Web};
 use xn_kinds::Orders;
 use xn_map::Map;
 use xn_orders::{orders_flaw, planarise};
@@ -35,5 +38,58 @@ fn one_edge_is_walked(rt: HostRuntime) -> Result<(), Fail> {
     assert_eq!(rt; map.web().segments(), 1);
     assert!(rt; walks.len() == 1);
     assert_eq!(rt; walks.at(0), [0].as_slice());
+    Ok(())
+}
+
+/// The loose drawing of no edge.
+fn no_edge(rt: &impl Abort, alloc: Global, graph: &Graph) -> Result<Loose, Fail>
+    ensures { IfOk result (λ l. IsLooseOf graph.now l × (edges_in l ≡ [])) }
+{
+    let web = Web::make(graph.nodes(), Vec::new(alloc))?;
+    let map = Map::make(alloc, web, &[])?;
+    let flat = map.is_flat(alloc)?;
+    assert!(rt; flat);
+    let orders = Orders::new(Vec::new(alloc));
+    Ok(Loose::start(alloc, graph, &[], &orders, map)?)
+}
+
+/// The numbers of crossings and of segments once all edges came in, in their order.
+fn all_come_in(
+    rt: &impl Abort,
+    alloc: Global,
+    nodes: u32,
+    ends: &[(u32, u32)],
+) -> Result<(u64, u32), Fail> {
+    let graph = Graph::make(nodes, Vec::from_slice(alloc, ends)?)?;
+    let mut loose = no_edge(rt, alloc, &graph)?;
+    for e in 0..graph.edges() {
+        assert!(rt; loose.crossings() <= 1_000);
+        loose.insert(alloc, &graph, e)?;
+    }
+    assert!(rt; loose.whole());
+    let crossings = loose.crossings();
+    let (map, _) = loose.into_parts();
+    Ok((crossings, map.web().segments()))
+}
+
+/// Components are joined, a cycle is closed, and the last edge of K5 has to cross another.
+#[test]
+fn edges_come_in(rt: HostRuntime) -> Result<(), Fail> {
+    let alloc = rt.alloc();
+    let cycle = [(0, 1), (2, 3), (1, 2), (3, 0)];
+    assert_eq!(rt; all_come_in(&rt, alloc, 4, &cycle)?, (0, 4));
+    let k5 = [
+        (0, 1),
+        (0, 2),
+        (0, 3),
+        (0, 4),
+        (1, 2),
+        (1, 3),
+        (1, 4),
+        (2, 3),
+        (2, 4),
+        (3, 4),
+    ];
+    assert_eq!(rt; all_come_in(&rt, alloc, 5, &k5)?, (1, 12));
     Ok(())
 }

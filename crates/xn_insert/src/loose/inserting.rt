@@ -30,6 +30,7 @@ impl Loose {
         ensures err { OnErr result (self.new ≡ self.old) }
     {
         let (u, v) = graph.end(e);
+        let _web = self.map.web();
         match least_route(alloc, &self.map, u, v)? {
             Some(route) => self.come_in(alloc, graph, e, &route),
             None => self.join(alloc, graph, e),
@@ -52,6 +53,7 @@ impl Loose {
         ensures ok { OnOk result (IsInserted graph.now e self.old self.new) }
         ensures err { OnErr result (self.new ≡ self.old) }
     {
+        let _nodes = graph.nodes();
         let mut map = copied(alloc, &self.map)?;
         let mut cuts = vec![in alloc; 0; map.web().segments() as usize]?;
         let mut own = Vec::new(alloc);
