@@ -55,17 +55,11 @@ fn no_edge(alloc: Global, graph: &Graph) -> Result<Loose, Fail>
 }
 
 /// The numbers of crossings and of segments once all edges came in, in their order.
-fn all_come_in(
-    rt: &impl Abort,
-    alloc: Global,
-    nodes: u32,
-    ends: &[(u32, u32)],
-) -> Result<(u64, u32), Fail> {
-    let graph = Graph::make(nodes, Vec::from_slice(alloc, ends)?)?;
-    let mut loose = no_edge(alloc, &graph)?;
+fn all_come_in(rt: &impl Abort, alloc: Global, graph: &Graph) -> Result<(u64, u32), Fail> {
+    let mut loose = no_edge(alloc, graph)?;
     for e in 0..graph.edges() {
         assert!(rt; loose.crossings() <= 1_000);
-        loose.insert(alloc, &graph, e)?;
+        loose.insert(alloc, graph, e)?;
     }
     assert!(rt; loose.whole());
     let crossings = loose.crossings();
@@ -73,12 +67,23 @@ fn all_come_in(
     Ok((crossings, map.web().segments()))
 }
 
+/// The same of the graph with these ends.
+fn counts(
+    rt: &impl Abort,
+    alloc: Global,
+    nodes: u32,
+    ends: &[(u32, u32)],
+) -> Result<(u64, u32), Fail> {
+    let graph = Graph::make(nodes, Vec::from_slice(alloc, ends)?)?;
+    all_come_in(rt, alloc, &graph)
+}
+
 /// Components are joined, a cycle is closed, and the last edge of K5 has to cross another.
 #[test]
 fn edges_come_in(rt: HostRuntime) -> Result<(), Fail> {
     let alloc = rt.alloc();
     let cycle = [(0, 1), (2, 3), (1, 2), (3, 0)];
-    assert_eq!(rt; all_come_in(&rt, alloc, 4, &cycle)?, (0, 4));
+    assert_eq!(rt; counts(&rt, alloc, 4, &cycle)?, (0, 4));
     let k5 = [
         (0, 1),
         (0, 2),
@@ -91,6 +96,6 @@ fn edges_come_in(rt: HostRuntime) -> Result<(), Fail> {
         (2, 4),
         (3, 4),
     ];
-    assert_eq!(rt; all_come_in(&rt, alloc, 5, &k5)?, (1, 12));
+    assert_eq!(rt; counts(&rt, alloc, 5, &k5)?, (1, 12));
     Ok(())
 }
