@@ -23,7 +23,8 @@ use Rattle.xn_insert.specs.Routed.{IsLeastRoute}
 use Rattle.xn_insert.proofs.Counted.{few_segments}
 use Rattle.xn_insert.proofs.CutWalks.{AreBelow}
 use Rattle.xn_insert.proofs.Ended.{grown_inserted, last_face}
-use Rattle.xn_insert.proofs.Grown.{GrownTo, apart, d_in, d_low, grown_begun, grown_more, step_face, step_flat, walks_below}
+use Rattle.xn_insert.proofs.Grown.{GrownTo, apart, grown_begun, walks_below}
+use Rattle.xn_insert.proofs.GrownMore.{d_in, d_low, grown_more, step_face, step_flat}
 
 below_at : (m : ℕ) (ds : List ℕ) (i : ℕ) → AreBelow m ds → i < length ds → at ds i < m
 below_at m [] i below low = absurd (omega (arith, low))

@@ -8,6 +8,7 @@ pub mod FaceWalks
 pub mod FacesAround
 pub mod Fronts
 pub mod Grown
+pub mod GrownMore
 pub mod Joined
 pub mod Nearest
 pub mod Rounds
