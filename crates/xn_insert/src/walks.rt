@@ -33,6 +33,13 @@ impl Walks {
         self.lists.len()
     }
 
+    /// The lists, in the order of their edges.
+    pub fn into_lists(self) -> Vec<Vec<u32>>
+        ensures { lists_of result.items ≡ self }
+    {
+        self.lists
+    }
+
     /// The list at a place, from 0 on.
     pub fn at(&self, e: usize) -> &[u32]
         requires { e < length self.now }
