@@ -2,6 +2,7 @@ pub mod Agreeing
 pub mod Answered
 pub mod Apart
 pub mod Begun
+pub mod Changed
 pub mod Drawn
 pub mod DrawnBy
 pub mod Found
@@ -9,10 +10,13 @@ pub mod Listed
 pub mod Lists
 pub mod Loosened
 pub mod MeetAgain
+pub mod Noted
 pub mod Picked
 pub mod Placed
 pub mod Read
+pub mod ReadOff
 pub mod Sharing
+pub mod Simplified
 pub mod Steps
 pub mod Taken
 pub mod Tangled

@@ -19,7 +19,7 @@ impl Tangle {
     {
         let numbers = numbers_of(alloc, edges, &self.edges)?;
         let mut orders = Orders::new(Vec::with_capacity(alloc, self.edges.len())?);
-        let mut starts = Vec::new(alloc);
+        let mut starts = Vec::with_capacity(alloc, 2 * self.map.web().segments() as usize)?;
         for e in &self.edges {
             orders.push(self.list_along(alloc, &numbers, *e)?)?;
             self.push_starts(&mut starts, *e)?;
@@ -83,7 +83,6 @@ impl Tangle {
 // For each of the listed edges its place in the list.
 fn numbers_of(alloc: Global, count: u32, edges: &[u32]) -> Result<Vec<u32>, AllocError>
     requires below { (i : ℕ) → i < length edges.now → at edges.now i < count }
-    requires few { length edges.now ≤ 1000 }
     requires apart { (i j : ℕ) → i < length edges.now → j < length edges.now → at edges.now i ≡ at edges.now j → i ≡ j }
     ensures { IfOk result (λ numbers. AreNumbers count edges.now numbers.items) }
 {

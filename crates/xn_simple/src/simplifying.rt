@@ -37,9 +37,10 @@ fn tangle_of(alloc: Global, graph: &Graph, map: Map, walks: Walks) -> Result<Tan
     requires { IsLooseOf graph.now (loose_of graph.now.nodes map walks) }
     ensures { IfOk result (λ t. IsTangleOf graph.now map (edges_in (loose_of graph.now.nodes map walks)) (lists_in t)) }
 {
+    let first = graph.nodes();
     let lists = walks.into_lists();
     let edges = edges_with_walks(alloc, &lists)?;
-    let four = further_nodes(alloc, graph.nodes(), map.web().nodes())?;
+    let four = further_nodes(alloc, first, map.web().nodes())?;
     let notes = notes_of(alloc, map.web().segments(), &lists)?;
     Ok(Tangle {
         map,
