@@ -110,8 +110,8 @@ module _ (g : Graph) (t : ListedTangle) (done : IsUntangled g t) where
             drawing = subst (λ o. IsDrawing sub o (at turns)) (sym order_is) renamed.0;
           },
           let few = tidy.few in
-          let same = ap (crossing_count sub) order_is ∙ renamed.1 in
-          omega (arith, few, same),
+              let same = ap (crossing_count sub) order_is ∙ renamed.1 in
+              omega (arith, few, same),
         ) in
         let there = subst (λ ls. D ls d.next) (sym orders_are) (subst (λ ns. D rows ns) (sym next_is) both) in
         record { drawing = there.0; few = there.1 }

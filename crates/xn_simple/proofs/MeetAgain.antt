@@ -123,15 +123,15 @@ module _ (g : Graph) (edges : List ℕ) (web : Graph) (next : ℕ → ℕ) (four
   pub simply : MeetSimply g edges more.ends walks
   simply = record {
     itself = λ e e_in. distinct_by_places (spots e) (λ i j i_in j_in same. elim (cases_eq i j) [
-        | inl is ↦ is
-        | inr other ↦
-            let v = at (spots e) j in
-            let holds = both_named e i e j v e_in i_in e_in j_in same refl (λ eq. other (omega (arith, eq))) in
-            let size = same_size e in
-            let one = to_inner e i v e_in i_in holds same in
-            let two = to_inner e j v e_in j_in holds refl in
-            meet.itself e i j e_in (omega (arith, size, i_in)) (omega (arith, size, j_in)) (ap four one ∙ holds) (one ∙ sym two)
-      ]);
+      | inl is ↦ is
+      | inr other ↦
+          let v = at (spots e) j in
+          let holds = both_named e i e j v e_in i_in e_in j_in same refl (λ eq. other (omega (arith, eq))) in
+          let size = same_size e in
+          let one = to_inner e i v e_in i_in holds same in
+          let two = to_inner e j v e_in j_in holds refl in
+          meet.itself e i j e_in (omega (arith, size, i_in)) (omega (arith, size, j_in)) (ap four one ∙ holds) (one ∙ sym two)
+    ]);
     apart = λ e f v e_in f_in differ one two.
         let holds = both_have e f v e_in f_in differ one two in
         meet.apart e f v e_in f_in differ holds (has_inner e v e_in holds one) (has_inner f v f_in holds two);

@@ -71,9 +71,9 @@ all_noted segments lists owners places e whole owners_fit places_fit before = re
   owners_fit = owners_fit;
   places_fit = places_fit;
   held = λ x. elim (cases_lt x e) [
-      | inl low ↦ before x low
-      | inr past ↦ λ i i_in. let none = ap length (past_list lists x (omega (arith, whole, past))) in absurd (omega (arith, i_in, none))
-    ];
+    | inl low ↦ before x low
+    | inr past ↦ λ i i_in. let none = ap length (past_list lists x (omega (arith, whole, past))) in absurd (omega (arith, i_in, none))
+  ];
 }
 
 -- a walk's darts and segments

@@ -160,10 +160,13 @@ module _ (g : Graph) (edges : List ℕ) (web : Graph) (next : ℕ → ℕ) (four
   Fine d = (d < 2 * length web.ends) × ((tail_of web.ends d < g.nodes) ⊎ (four (tail_of web.ends d) ≡ true))
 
   at_end : (d : ℕ) → d < 2 * length web.ends → tail_of more.ends d < g.nodes → Fine d
-  at_end d d_in low = (d_in, inl (elim (kept.tails d d_in) [
-    | inl same ↦ omega (arith, same, low)
-    | inr new ↦ let high = new.0 in absurd (omega (arith, high, low, nodes_in))
-  ]))
+  at_end d d_in low = (
+    d_in,
+    inl (elim (kept.tails d d_in) [
+      | inl same ↦ omega (arith, same, low)
+      | inr new ↦ let high = new.0 in absurd (omega (arith, high, low, nodes_in))
+    ]),
+  )
 
   start_fine : (x : ℕ) → x < length starts → Fine (at starts x)
   start_fine x x_in =

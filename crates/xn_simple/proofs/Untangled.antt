@@ -92,12 +92,12 @@ module _ (g : Graph) (start t : ListedTangle) (rest : List ℕ) (e : ℕ) (befor
     tangle = before.tangle;
     within = λ x is. before.within x (has-left rest (e ∷ []) x is);
     well = λ a b a_out b_out. elim (cases_eq a e) [
-        | inl a_is ↦ subst (λ k. MeetWell g t k b) (sym a_is) (well b)
-        | inr a_not ↦ elim (cases_eq b e) [
-          | inl b_is ↦ subst (λ k. MeetWell g t a k) (sym b_is) (well_turned g t e a turn (well a))
-          | inr b_not ↦ before.well a b (not_in rest e a a_out a_not) (not_in rest e b b_out b_not)
-        ]
-      ];
+      | inl a_is ↦ subst (λ k. MeetWell g t k b) (sym a_is) (well b)
+      | inr a_not ↦ elim (cases_eq b e) [
+        | inl b_is ↦ subst (λ k. MeetWell g t a k) (sym b_is) (well_turned g t e a turn (well a))
+        | inr b_not ↦ before.well a b (not_in rest e a a_out a_not) (not_in rest e b b_out b_not)
+      ]
+    ];
   }
 
   pub less_left : work t rest < work t (rest ++ e ∷ [])
