@@ -3,7 +3,7 @@ use Rattle.xn_model.specs.Lists.{at}
 use Rattle.xn_simple.specs.Tangle.{lists_in, named, walk_in}
 use Rattle.xn_simple.specs.Tidied.{is_crossed, starts_past}
 use Rattle.xn_simple.specs.Untangling.{starts_in_walk}
-use Rattle.xn_simple.proofs.reading.Tangle.push_starts.Given as goal
+use Rattle.xn_simple.proofs.tangle.Tangle.push_starts.Given as goal
 
 -- the darts so far, and then those after the last one
 abbrev pub invariant-loop-i : goal.invariant-loop-i

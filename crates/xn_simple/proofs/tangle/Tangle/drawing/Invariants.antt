@@ -3,7 +3,7 @@ use Rattle.std.specs.List.{flat_map}
 use Rattle.xn_model.specs.Lists.{at}
 use Rattle.xn_simple.specs.Tangle.{lists_in}
 use Rattle.xn_simple.specs.Untangling.{order_in, starts_in_walk}
-use Rattle.xn_simple.proofs.reading.Tangle.drawing.Given as goal
+use Rattle.xn_simple.proofs.tangle.Tangle.drawing.Given as goal
 
 -- those of the first edges
 abbrev pub invariant-loop-e : goal.invariant-loop-e

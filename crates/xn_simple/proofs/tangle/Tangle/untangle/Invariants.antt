@@ -1,7 +1,7 @@
 use Rattle.std.proofs.Common.{◌≡◌, length}
 use Rattle.xn_simple.specs.Tangle.{lists_in}
 use Rattle.xn_simple.proofs.Untangled.{Untangling, work}
-use Rattle.xn_simple.proofs.simplifying.Tangle.untangle.Given as goal
+use Rattle.xn_simple.proofs.tangle.Tangle.untangle.Given as goal
 
 -- walks meet well but for those of the edges that are open
 abbrev pub invariant-loop-e : goal.invariant-loop-e

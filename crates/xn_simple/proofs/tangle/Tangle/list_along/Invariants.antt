@@ -5,7 +5,7 @@ use Rattle.xn_simple.specs.Tangle.{lists_in, named, walk_in}
 use Rattle.xn_simple.specs.Tidied.{is_crossed}
 use Rattle.xn_simple.specs.Untangling.{order_in}
 use Rattle.xn_simple.proofs.Read.{numbers_past}
-use Rattle.xn_simple.proofs.reading.Tangle.list_along.Given as goal
+use Rattle.xn_simple.proofs.tangle.Tangle.list_along.Given as goal
 
 -- the numbers so far, and then those at the darts that are left
 abbrev pub invariant-loop-i : goal.invariant-loop-i
