@@ -1,11 +1,13 @@
 -- A step as it is taken in memory: nodes are unmarked first, and then the walks are put.
-use Rattle.std.proofs.Common.{◌≡◌, ◌≢◌, ℕ, suc, ◌+◌, ◌-◌, ◌*◌, ◌/◌, ◌<◌, ◌≤◌, inl, inr, Bool, true, false, not, List, [], ◌∷◌, ◌++◌, length, take, drop, refl, sym, ◌∙◌, ap, ap₂, subst, arith, length-append}
+use Rattle.std.proofs.Common.{◌≡◌, ◌≢◌, ℕ, suc, ◌+◌, ◌-◌, ◌*◌, ◌/◌, ◌<◌, ◌≤◌, inl, inr, Bool, true, false, not, List, [], ◌∷◌, ◌++◌, length, get_or, take, drop, refl, sym, ◌∙◌, ap, ap₂, subst, arith, length-append}
 use Rattle.std.proofs.lemmas.Bool.{and_from, ne_eqb}
-use Rattle.std.proofs.lemmas.List.{drop_all, drop_more, length-drop, length-set, length-take-le, take_rest}
+use Rattle.std.proofs.lemmas.List.{drop_all, drop_more, get_or_read, length-drop, length-set, length-take-le, take_rest}
 use Rattle.xn_model.specs.Graph.{Graph}
 use Rattle.xn_model.specs.Lists.{at, has}
 use Rattle.xn_model.specs.Map.{reverse_of}
+use Rattle.xn_model.proofs.Darts.{reverse_below}
 use Rattle.xn_track.specs.Steps.{crossing_over, node_after, reverse_walk, turned_walk, with_walk}
+use Rattle.xn_track.proofs.Paths.{at-reverse_walk, length-reverse_walk}
 use Rattle.xn_simple.specs.Loosened.{IsLoosened, all_but}
 use Rattle.xn_simple.specs.Tangle.{IsTangle, IsWalkPut, ListedTangle, MeetAt, named, node_in, unmarked, walk_in}
 use Rattle.xn_simple.specs.Untangling.{IsStep, Leaves, MeetTwice, place_turned}
@@ -46,6 +48,14 @@ reversed_more darts walk i i_in before =
 pub reversed_all : (darts walk : List ℕ) (i : ℕ) → length walk ≤ i → darts ≡ reverse_walk (drop (length walk - i) walk) → darts ≡ reverse_walk walk
 reversed_all darts walk i whole before = let none : length walk - i ≡ 0 = omega (arith, whole) in before ∙ ap (λ n. reverse_walk (drop n walk)) none
 
+-- the places at which two walks change over again are in them
+pub places_in : (one two : List ℕ) (i k j l : ℕ) → i < k → k < length one → j < l → l < length two →
+    (i + (l - j) < length (crossing_over one i two j)) × (j + (k - i) < length (crossing_over two j one i))
+places_in one two i k j l low k_in order l_in =
+    let first = length-crossing one two i j (omega (arith, k_in, low)) in
+    let second = length-crossing two one j i (omega (arith, order, l_in)) in
+    (omega (arith, first, order, l_in), omega (arith, second, low, k_in))
+
 -- what putting a walk asks for
 pub record MayPut (e : ℕ) (walk : List ℕ) (t : ListedTangle) : Type 0 where
   pub edge : e < length t.walks
@@ -65,6 +75,27 @@ pub record Unmarked (old : ListedTangle) (four : ℕ → Bool) (mid : ListedTang
   pub names : named mid ≡ four
 
 module _ (g : Graph) (old : ListedTangle) (tangle : IsTangle g old) where
+  -- darts that are read
+  pub dart_at : (e i : ℕ) → suc i < length (walk_in old e) → (xs : List ℕ) → xs ≡ walk_in old e → (x : ℕ) → x ≡ get_or xs (i + 1) x → x ≡ at (walk_in old e) (suc i)
+  dart_at e i i_in xs is x read =
+      let size = ap length is in
+      let k : i + 1 ≡ suc i = omega arith in
+      get_or_read xs (i + 1) x (omega (arith, i_in, size)) read 0 ∙ ap (λ l. at l (i + 1)) is ∙ ap (at (walk_in old e)) k
+
+  pub dart_low : (e i : ℕ) → i < length (walk_in old e) → at (walk_in old e) i < length old.map.next
+  dart_low e i i_in = let low = dart_in g old tangle e i i_in in let fits = tangle.is_map.fits in omega (arith, low, fits)
+
+  pub turned_low : (turn : Bool) (e k : ℕ) → k < length (turned_walk turn (walk_in old e)) → at (turned_walk turn (walk_in old e)) k < length old.map.next
+  turned_low false e k k_in = dart_low e k k_in
+  turned_low true e k k_in =
+      let ds = walk_in old e in
+      let long = length-reverse_walk ds in
+      let m = length ds - 1 - k in
+      let low = reverse_below (length old.map.web.ends) (at ds m) (dart_in g old tangle e m (omega (arith, k_in, long))) in
+      let is = at-reverse_walk ds k m (omega (arith, k_in, long)) in
+      let fits = tangle.is_map.fits in
+      omega (arith, low, is, fits)
+
   pub unmarked_one : (v : ℕ) → named old v ≡ true → (mid : ListedTangle) → mid ≡ unmarked old v → Unmarked old (all_but (named old) v) mid
   unmarked_one v holds mid is =
       let v_in = mark_in g old tangle v holds in
@@ -206,17 +237,6 @@ module _ (g : Graph) (old : ListedTangle) (tangle : IsTangle g old) where
       turned_order g old tangle turn (length (walk_in old f)) j l twice.first.two_in twice.second.two_in back forward,
       (pass_turned g old tangle turn f l (node_in old e k) twice.second.two_in twice.second.holds (sym twice.second.one_node)).in_it,
     )
-
-    -- the places at which the walks change over again are in them
-    pub middles_places : (i + (l_now - j_now) < length over_one) × (j_now + (k - i) < length over_two)
-    middles_places =
-        let order = middles_order.0 in
-        let l_in = middles_order.1 in
-        let k_in = twice.second.one_in in
-        let low = twice.order in
-        let one = length-crossing walk_one walk_two i j_now (omega (arith, k_in, low)) in
-        let two = length-crossing walk_two walk_one j_now i (omega (arith, order, l_in)) in
-        (omega (arith, one, order, l_in), omega (arith, two, low, k_in))
 
     pub middles_two : (half mid : ListedTangle) → half ≡ unmarked old (node_in old e i) → mid ≡ unmarked half (node_in old e k) →
         MayPutTwo g old e f (crossing_over over_one (i + (l_now - j_now)) over_two (j_now + (k - i)))

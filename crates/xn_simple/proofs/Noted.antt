@@ -4,7 +4,7 @@ use Rattle.std.specs.Global.{Global}
 use Rattle.std.specs.List.{range_with_len}
 use Rattle.std.specs.Prelude.{filter}
 use Rattle.std.proofs.lemmas.Bool.{cases_eq, cases_lt, cond-true, cond-false}
-use Rattle.std.proofs.lemmas.List.{append-nil, get_or-map, get_or-set_other, get_or-set_same}
+use Rattle.std.proofs.lemmas.List.{append-nil, get_or-map, length-map, get_or-set_other, get_or-set_same}
 use Rattle.std.proofs.lemmas.List.Elements.{filter-append}
 use Rattle.xn_list.specs.Lists.{lists_of}
 use Rattle.xn_model.specs.Lists.{at}
@@ -14,9 +14,24 @@ use Rattle.xn_insert.specs.ListedLoose.{has_dart, walk_of}
 use Rattle.xn_simple.specs.Tangle.{AreNotesOf, HoldNotes, IsNoted, WalksAreApart}
 use Rattle.xn_simple.proofs.Placed.{notes_stay}
 
+past_list : (lists : List (List ℕ)) (e : ℕ) → length lists ≤ e → walk_of lists e ≡ []
+past_list [] e past = refl
+past_list (w ∷ ws) zero past = absurd (omega (arith, past))
+past_list (w ∷ ws) (suc e) past = past_list ws e (omega (arith, past))
+
 -- a list of vectors at a place
-pub list_at : (vectors : List (Vec ℕ Global)) (e : ℕ) (v : Vec ℕ Global) → e < length vectors → v ≡ get_or vectors e v → v.items ≡ walk_of (lists_of vectors) e
-list_at vectors e v e_in is = ap vec_items is ∙ sym (get_or-map vec_items vectors e v [] e_in)
+pub list_there : (vectors : List (Vec ℕ Global)) (e : ℕ) (v : Vec ℕ Global) → e < length vectors → v ≡ get_or vectors e v → v.items ≡ walk_of (lists_of vectors) e
+list_there vectors e v e_in is = ap vec_items is ∙ sym (get_or-map vec_items vectors e v [] e_in)
+
+-- and where it has a dart
+pub walk_read : (vectors : List (Vec ℕ Global)) (e i : ℕ) (v : Vec ℕ Global) → i < length (walk_of (lists_of vectors) e) → v ≡ get_or vectors e v → v.items ≡ walk_of (lists_of vectors) e
+walk_read vectors e i v i_in is = elim (cases_lt e (length vectors)) [
+  | inl low ↦ list_there vectors e v low is
+  | inr past ↦
+      let size = length-map vectors vec_items in
+      let none = ap length (past_list (lists_of vectors) e (omega (arith, size, past))) in
+      absurd (omega (arith, i_in, none))
+]
 
 pub dart_of : (ds : List ℕ) → length ds ≢ 0 → has_dart ds ≡ true
 dart_of [] some = absurd (some refl)
@@ -59,11 +74,6 @@ noted_more segments lists are e walk owners places owners_now places_now is note
       (λ i j i_in j_in same. other (sym (are.apart e x i j (subst (λ w. i < length w) is i_in) j_in (ap (λ w. at w i / 2) (sym is) ∙ same)).0))
       (before x (omega (arith, x_in, other)))
 ]
-
-past_list : (lists : List (List ℕ)) (e : ℕ) → length lists ≤ e → walk_of lists e ≡ []
-past_list [] e past = refl
-past_list (w ∷ ws) zero past = absurd (omega (arith, past))
-past_list (w ∷ ws) (suc e) past = past_list ws e (omega (arith, past))
 
 pub all_noted : (segments : ℕ) (lists : List (List ℕ)) (owners places : List ℕ) (e : ℕ) → length lists ≤ e → length owners ≡ segments → length places ≡ segments →
     ((x : ℕ) → x < e → HoldNotes owners places x (walk_of lists x)) → AreNotesOf segments lists owners places

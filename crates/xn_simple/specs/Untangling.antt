@@ -6,7 +6,7 @@ use Rattle.xn_model.specs.Lists.{at, has, position_in}
 use Rattle.xn_model.specs.Orders.{crossing_count}
 use Rattle.xn_model.specs.Permutation.{count_below}
 use Rattle.xn_loose.specs.Renaming.{subgraph_of}
-use Rattle.xn_track.specs.Steps.{end_from}
+use Rattle.xn_track.specs.Steps.{crossing_over, end_from}
 use Rattle.xn_track.specs.Tidying.{other_at}
 use Rattle.xn_simple.specs.Tangle.{IsTangle, ListedTangle, MeetAt, named, node_in, walk_in}
 use Rattle.xn_simple.specs.Tidied.{is_crossed, order_by_walks, walk_starts}
@@ -63,6 +63,11 @@ pub record HasMetBefore (t : ListedTangle) (e first i f : ℕ) (found : Option P
 -- the place of the same pass when a walk of so many darts is turned
 abbrev pub place_turned : Bool → ℕ → ℕ → ℕ
 place_turned t long i = if t then long - 2 - i else i
+
+-- the parts between two places of one walk and of another change places
+pub record AreExchanged (one : List ℕ) (i k : ℕ) (two : List ℕ) (j l : ℕ) (walk back : List ℕ) : Type 0 where
+  pub walk_is : walk ≡ crossing_over (crossing_over one i two j) (i + (l - j)) (crossing_over two j one i) (j + (k - i))
+  pub back_is : back ≡ crossing_over (crossing_over two j one i) (j + (k - i)) (crossing_over one i two j) (i + (l - j))
 
 -- how many nodes are named
 abbrev pub named_count : ListedTangle → ℕ

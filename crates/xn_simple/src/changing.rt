@@ -3,7 +3,7 @@ ghost use Rattle.std.specs.Prelude.{◌≡◌, ◌<◌, suc, IfOk, OnOk, length}
 ghost use Rattle.xn_model.specs.Graph.{Graph};
 ghost use Rattle.xn_track.specs.Steps.{crossing_over, reverse_walk, turned_walk};
 ghost use Rattle.xn_simple.specs.Tangle.{IsTangle, lists_in};
-ghost use Rattle.xn_simple.specs.Untangling.{IsStep, Leaves, MeetTwice, place_turned};
+ghost use Rattle.xn_simple.specs.Untangling.{AreExchanged, IsStep, Leaves, MeetTwice, place_turned};
 ghost use Rattle.xn_simple.specs.declared.finding.Step.{Step};
 
 use crate::finding::Step;
@@ -97,10 +97,7 @@ impl Tangle {
         let l = place_in_turned(t, two.len(), at_f.1);
         let one = &self.walks[e as usize];
         let (u, v) = (self.map.tail(one[i + 1]), self.map.tail(one[k + 1]));
-        let first = crossed_over(alloc, one, i, &two, j)?;
-        let second = crossed_over(alloc, &two, j, one, i)?;
-        let walk = crossed_over(alloc, &first, i + (l - j), &second, j + (k - i))?;
-        let back = crossed_over(alloc, &second, j + (k - i), &first, i + (l - j))?;
+        let (walk, back) = exchanged(alloc, one, (i, k), &two, (j, l))?;
         let other = turned(alloc, t, &back)?;
         self.unmark(u);
         self.unmark(v);
@@ -108,6 +105,26 @@ impl Tangle {
         self.put(f, other);
         Ok(())
     }
+}
+
+// Two walks, each of which passes two nodes at two places: their parts between change places.
+fn exchanged(
+    alloc: Global,
+    one: &[u32],
+    at_one: (usize, usize),
+    two: &[u32],
+    at_two: (usize, usize),
+) -> Result<(Vec<u32>, Vec<u32>), AllocError>
+    requires one_in { (at_one.0 < at_one.1) × (at_one.1 < length one.now) }
+    requires two_in { (at_two.0 < at_two.1) × (at_two.1 < length two.now) }
+    ensures { IfOk result (λ walks. AreExchanged one.now at_one.0 at_one.1 two.now at_two.0 at_two.1 walks.0.items walks.1.items) }
+{
+    let ((i, k), (j, l)) = (at_one, at_two);
+    let first = crossed_over(alloc, one, i, two, j)?;
+    let second = crossed_over(alloc, two, j, one, i)?;
+    let walk = crossed_over(alloc, &first, i + (l - j), &second, j + (k - i))?;
+    let back = crossed_over(alloc, &second, j + (k - i), &first, i + (l - j))?;
+    Ok((walk, back))
 }
 
 // The darts of one walk up to a place, and those of another after a place.

@@ -21,11 +21,11 @@ change_middles-requires c =
     let r = c.requires in
     (r.0, r.1, (subst (IsStep r.0 t c.args.e) c.in-Middles.is r.2).1)
 
-pub returns-in_ok-cut_off : goal.returns-in_ok-cut_off
-returns-in_ok-cut_off c = λ g tangle step. c.in_ok-cut_off.ensures g tangle (subst (IsStep g (lists_in c.args.self.now) c.args.e) c.in-Closed.is step)
+pub returns-in_ok-cut_off-in-Closed : goal.returns-in_ok-cut_off-in-Closed
+returns-in_ok-cut_off-in-Closed c = λ g tangle step. c.in_ok-cut_off-in-Closed.ensures g tangle (subst (IsStep g (lists_in c.args.self.now) c.args.e) c.in-Closed.is step)
 
-pub returns-in_ok-change_beginnings : goal.returns-in_ok-change_beginnings
-returns-in_ok-change_beginnings c = λ g tangle step. c.in_ok-change_beginnings.ensures g tangle (subst (IsStep g (lists_in c.args.self.now) c.args.e) c.in-Beginnings.is step)
+pub returns-in_ok-change_beginnings-in-Beginnings : goal.returns-in_ok-change_beginnings-in-Beginnings
+returns-in_ok-change_beginnings-in-Beginnings c = λ g tangle step. c.in_ok-change_beginnings-in-Beginnings.ensures g tangle (subst (IsStep g (lists_in c.args.self.now) c.args.e) c.in-Beginnings.is step)
 
-pub returns-in_ok-change_middles : goal.returns-in_ok-change_middles
-returns-in_ok-change_middles c = λ g tangle step. c.in_ok-change_middles.ensures g tangle (subst (IsStep g (lists_in c.args.self.now) c.args.e) c.in-Middles.is step).1
+pub returns-in_ok-change_middles-in-Middles : goal.returns-in_ok-change_middles-in-Middles
+returns-in_ok-change_middles-in-Middles c = λ g tangle step. c.in_ok-change_middles-in-Middles.ensures g tangle (subst (IsStep g (lists_in c.args.self.now) c.args.e) c.in-Middles.is step).1
