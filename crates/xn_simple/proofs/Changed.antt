@@ -10,7 +10,7 @@ use Rattle.xn_track.specs.Steps.{crossing_over, node_after, reverse_walk, turned
 use Rattle.xn_track.proofs.Paths.{at-reverse_walk, length-reverse_walk}
 use Rattle.xn_simple.specs.Loosened.{IsLoosened, all_but}
 use Rattle.xn_simple.specs.Tangle.{IsTangle, IsWalkPut, ListedTangle, MeetAt, named, node_in, unmarked, walk_in}
-use Rattle.xn_simple.specs.Untangling.{IsStep, Leaves, MeetTwice, place_turned}
+use Rattle.xn_simple.specs.Untangling.{AreExchanged, IsStep, Leaves, MeetTwice, place_turned}
 use Rattle.xn_simple.specs.declared.finding.Step.TheVariants.{Beginnings}
 use Rattle.xn_simple.specs.declared.tangle.Pass.{Pass}
 use Rattle.xn_simple.proofs.Taken.{Unmarks, leaves_one, leaves_two, list_in, mark_in, named_unset, one_apart, one_low, own_apart, own_low, two_apart, two_low, unmarks, unmarks_again}
@@ -48,6 +48,17 @@ reversed_more darts walk i i_in before =
 pub reversed_all : (darts walk : List ℕ) (i : ℕ) → length walk ≤ i → darts ≡ reverse_walk (drop (length walk - i) walk) → darts ≡ reverse_walk walk
 reversed_all darts walk i whole before = let none : length walk - i ≡ 0 = omega (arith, whole) in before ∙ ap (λ n. reverse_walk (drop n walk)) none
 
+pub crossing_same : (one xs two ys : List ℕ) (i k j l : ℕ) → one ≡ xs → i ≡ k → two ≡ ys → j ≡ l → crossing_over one i two j ≡ crossing_over xs k ys l
+crossing_same one xs two ys i k j l one_is i_is two_is j_is =
+    ap₂ (λ us ws. us ++ ws) (ap₂ (λ n us. take (suc n) us) i_is one_is) (ap₂ (λ n ws. drop (suc n) ws) j_is two_is)
+
+-- a dart that is read from a list that is known
+pub read_at : (xs ds : List ℕ) (k i x : ℕ) → xs ≡ ds → k ≡ i → suc i < length ds → x ≡ get_or xs (k + 1) x → x ≡ at ds (suc i)
+read_at xs ds k i x is k_is i_in read =
+    let size = ap length is in
+    let next : k + 1 ≡ suc i = omega (arith, k_is) in
+    get_or_read xs (k + 1) x (omega (arith, i_in, size, k_is)) read 0 ∙ ap (λ l. at l (k + 1)) is ∙ ap (at ds) next
+
 -- the places at which two walks change over again are in them
 pub places_in : (one two : List ℕ) (i k j l : ℕ) → i < k → k < length one → j < l → l < length two →
     (i + (l - j) < length (crossing_over one i two j)) × (j + (k - i) < length (crossing_over two j one i))
@@ -55,6 +66,13 @@ places_in one two i k j l low k_in order l_in =
     let first = length-crossing one two i j (omega (arith, k_in, low)) in
     let second = length-crossing two one j i (omega (arith, order, l_in)) in
     (omega (arith, first, order, l_in), omega (arith, second, low, k_in))
+
+-- the same of walks that are equal
+pub exchanged_as : (one xs two ys : List ℕ) (i k j jj l ll : ℕ) (walk back : List ℕ) → one ≡ xs → two ≡ ys → j ≡ jj → l ≡ ll → AreExchanged one i k two j l walk back → AreExchanged xs i k ys jj ll walk back
+exchanged_as one xs two ys i k j jj l ll walk back one_is two_is j_is l_is are =
+    subst (λ us. AreExchanged us i k ys jj ll walk back) one_is
+    (subst (λ ws. AreExchanged one i k ws jj ll walk back) two_is
+    (subst (λ n. AreExchanged one i k two n ll walk back) j_is (subst (λ n. AreExchanged one i k two j n walk back) l_is are)))
 
 -- what putting a walk asks for
 pub record MayPut (e : ℕ) (walk : List ℕ) (t : ListedTangle) : Type 0 where
@@ -69,6 +87,11 @@ pub record MayPutTwo (g : Graph) (old : ListedTangle) (e f : ℕ) (one two : Lis
   pub second : (half : ListedTangle) → IsWalkPut e one mid half → MayPut f two half
   pub leaves : (half new : ListedTangle) → IsWalkPut e one mid half → IsWalkPut f two half new → Leaves g old new e f
 
+pub may_two_are : (g : Graph) (old : ListedTangle) (e f : ℕ) (one two one_now two_now : List ℕ) (mid : ListedTangle) → one_now ≡ one → two_now ≡ two →
+    MayPutTwo g old e f one two mid → MayPutTwo g old e f one_now two_now mid
+may_two_are g old e f one two one_now two_now mid one_is two_is may =
+    subst (λ w. MayPutTwo g old e f w two_now mid) (sym one_is) (subst (λ w. MayPutTwo g old e f one w mid) (sym two_is) may)
+
 -- what unmarking leaves
 pub record Unmarked (old : ListedTangle) (four : ℕ → Bool) (mid : ListedTangle) : Type 0 where
   pub less : Unmarks old mid
@@ -77,10 +100,7 @@ pub record Unmarked (old : ListedTangle) (four : ℕ → Bool) (mid : ListedTang
 module _ (g : Graph) (old : ListedTangle) (tangle : IsTangle g old) where
   -- darts that are read
   pub dart_at : (e i : ℕ) → suc i < length (walk_in old e) → (xs : List ℕ) → xs ≡ walk_in old e → (x : ℕ) → x ≡ get_or xs (i + 1) x → x ≡ at (walk_in old e) (suc i)
-  dart_at e i i_in xs is x read =
-      let size = ap length is in
-      let k : i + 1 ≡ suc i = omega arith in
-      get_or_read xs (i + 1) x (omega (arith, i_in, size)) read 0 ∙ ap (λ l. at l (i + 1)) is ∙ ap (at (walk_in old e)) k
+  dart_at e i i_in xs is x read = read_at xs (walk_in old e) i i x is refl i_in read
 
   pub dart_low : (e i : ℕ) → i < length (walk_in old e) → at (walk_in old e) i < length old.map.next
   dart_low e i i_in = let low = dart_in g old tangle e i i_in in let fits = tangle.is_map.fits in omega (arith, low, fits)

@@ -97,7 +97,7 @@ module _ (g : Graph) (t : ListedTangle) (done : IsUntangled g t) where
         omega (arith, rest, sum, one, size)
 
     segments : length (web_of g edges ord).ends ≡ length (drawn_web sub rows).ends
-    segments = row_segments edges ∙ sym (segment_count sub rows rows_fit)
+    segments = row_segments edges ∙ ap (λ k. k + total length rows) rows_fit ∙ sym (segment_count sub rows rows_fit)
 
     pub drawn_by : (d : Drawing) → d.orders ≡ rows → d.next ≡ turns → IsDrawnBy g t d
     drawn_by d orders_are next_is =

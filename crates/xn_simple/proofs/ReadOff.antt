@@ -150,7 +150,7 @@ module _ (g : Graph) (t : ListedTangle) (done : IsUntangled g t) where
     pub starts_begin : (so : List ℕ) → (so ++ at walk 0 ∷ []) ++ starts_past ends (crossed e) (at walk 0) (drop 1 walk) ≡ so ++ starts_in_walk t e
     starts_begin so =
         append_assoc so (at walk 0 ∷ []) (starts_past ends (crossed e) (at walk 0) (drop 1 walk))
-        ∙ ap (λ xs. so ++ xs) (sym (starts_first ends (crossed e) walk (walk_long e e_in)))
+        ∙ ap (λ xs. so ++ xs) (sym (starts_first ends (crossed e) (other e) (λ x. x) walk (walk_long e e_in)))
 
     pub starts_some : (so all : List ℕ) (i : ℕ) → 1 ≤ i → i < length walk → crossed e (node_in t e (i - 1)) ≡ true → so ++ starts_past ends (crossed e) (at walk (i - 1)) (drop i walk) ≡ all →
         ((so ++ reverse_of (at walk (i - 1)) ∷ []) ++ at walk i ∷ []) ++ starts_past ends (crossed e) (at walk (i + 1 - 1)) (drop (i + 1) walk) ≡ all
