@@ -21,3 +21,4 @@ pub mod Turned
 pub mod Turns
 pub mod Untangled
 pub mod WalksApart
+pub mod Within
