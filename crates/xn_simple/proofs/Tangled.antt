@@ -8,7 +8,7 @@ use Rattle.xn_model.specs.Loose.{WalksOnly, times_walked}
 use Rattle.xn_model.specs.Map.{IsMap, reverse_of, tail_of}
 use Rattle.xn_model.proofs.Darts.{reverse-reverse, reverse_below, reverse_other}
 use Rattle.xn_genus.proofs.Compress.{half_reverse}
-use Rattle.xn_track.specs.Track.{IsGround, IsTrack}
+use Rattle.xn_track.specs.Track.{IsGround, IsTrack, straight_on}
 use Rattle.xn_track.proofs.Blocks.{at_place, blocks_apart, place, place_in, size_of}
 use Rattle.xn_track.proofs.Passes.{goes_at, walk_in as dart_of_walk, walk_seam, walked_apart}
 use Rattle.xn_track.proofs.Relink.{at_node}
@@ -113,9 +113,10 @@ module _ (g : Graph) (t : ListedTangle) (tangle : IsTangle g t) where
   straight : (e i v : ℕ) → suc i < length (walks e) → four v ≡ true → node_in t e i ≡ v → after (after (reverse_of (at (walks e) i))) ≡ at (walks e) (suc i)
   straight e i v i_in holds at_v =
       let e_in = edge_in e (suc i) i_in in
-      let on = goes_at g.nodes more.ends _ (walks e) (track.straight e e_in) i i_in in
+      let on = goes_at g.nodes more.ends (straight_on more.ends four after) (walks e) (track.straight e e_in) i i_in in
       let s = arrives e i v i_in holds at_v in
-      sym (cond-true _ _ _ (ap four s.there ∙ holds)) ∙ on.1
+      let b = reverse_of (at (walks e) i) in
+      sym (cond-true (four (tail_of more.ends b)) (after (after b)) (after b) (ap four s.there ∙ holds)) ∙ on.1
 
   -- another pass goes over the dart that comes next after the one by which this one leaves
   pub only_other : (e i f j v : ℕ) → suc i < length (walks e) → suc j < length (walks f) → four v ≡ true → node_in t e i ≡ v → node_in t f j ≡ v →

@@ -46,6 +46,22 @@ module _ (t : ListedTangle) (some : IsSomeTangle t) (e i : ℕ) (place : suc i <
   pub named_read : (d v : ℕ) (b : Bool) → d ≡ at (walk_in t e) (suc i) → v ≡ tail_of t.map.web.ends d → b ≡ is_marked t.four v → b ≡ named t (node_in t e i)
   named_read d v b d_is v_is b_is = b_is ∙ ap (is_marked t.four) (v_is ∙ ap (tail_of t.map.web.ends) d_is)
 
+-- the darts of a walk are darts of the map
+pub darts_below : (t : ListedTangle) → IsSomeTangle t → (e : ℕ) (walk : List ℕ) → walk ≡ walk_in t e → (i : ℕ) → i < length walk → at walk i < length t.map.next
+darts_below t some e walk is i i_in =
+    let low = dart_in some.0 t some.1 e i (let size = ap length is in omega (arith, i_in, size)) in
+    let fits = some.1.is_map.fits in
+    let same = ap (λ w. at w i) is in
+    omega (arith, low, fits, same)
+
+-- a dart has a note
+pub note_in : (t : ListedTangle) → IsSomeTangle t → (d : ℕ) → d < length t.map.next → (d / 2 < length t.owners) × (d / 2 < length t.places)
+note_in t some d d_in =
+    let fits = some.1.is_map.fits in
+    let owners = some.1.owners_fit in
+    let places = some.1.places_fit in
+    (omega (arith, d_in, fits, owners), omega (arith, d_in, fits, places))
+
 -- an edge with a dart is one of the graph
 pub edge_below : (g : Graph) (t : ListedTangle) → IsTangle g t → (e : ℕ) → has t.edges e ≡ true → e < length g.ends
 edge_below g t tangle e e_in = has-all (λ f. f < length g.ends) t.edges tangle.loosened.track.edge_list.below e e_in
@@ -86,9 +102,9 @@ module _ (ends : List (ℕ × ℕ)) (walk : List ℕ) (noted d : ℕ) where
     }
 
     pub pass_nowhere : (PassesAt ends walk place (tail_of ends d) → ⊥) → IsPassIn ends walk noted d None
-    pass_nowhere no = record {
+    pass_nowhere misses = record {
       sound = λ j found. absurd (no_place j found);
-      all = λ j passes at_noted. absurd (no (subst (λ k. PassesAt ends walk k (tail_of ends d)) (sym (is j at_noted)) passes));
+      all = λ j passes at_noted. absurd (misses (subst (λ k. PassesAt ends walk k (tail_of ends d)) (sym (is j at_noted)) passes));
     }
 
 -- ---- the pass over a dart
