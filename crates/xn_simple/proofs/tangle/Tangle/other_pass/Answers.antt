@@ -1,4 +1,4 @@
-use Rattle.std.proofs.Common.{◌≡◌, ℕ, suc, Option, Some, None, refl, ◌∙◌, ap, subst}
+use Rattle.std.proofs.Common.{◌≡◌, ℕ, suc, Option, Some, None, inl, inr, refl, ◌∙◌, ap, subst}
 use Rattle.xn_model.specs.Lists.{at}
 use Rattle.xn_simple.specs.Tangle.{IsPassOver, lists_in, walk_in}
 use Rattle.xn_simple.specs.declared.tangle.Pass.{Pass}
@@ -21,7 +21,8 @@ returns-else-pass-e c =
     let p = c.in-Some.pass in
     let is : c.next.result ≡ at t.map.next (at (walk_in t c.args.e) (suc c.args.i)) = c.next.ensures.value ∙ ap (at t.map.next) c.leaving.ensures.value in
     let P : ℕ → Type 0 = λ d. IsPassOver t d (Some p) in
-    other_some some.0 t some.1 c.args.e c.args.i c.requires.place c.requires.holds (Some p) (subst P is c.in-Some.ensures) p refl ?
+    other_some some.0 t some.1 c.args.e c.args.i c.requires.place c.requires.holds (Some p) (subst P is c.in-Some.ensures) p refl
+    (λ edge place. elim c.else-pass-e.either [ inl both ↦ both.1 place | inr other ↦ other edge ])
 
 pub returns-in-None : goal.returns-in-None
 returns-in-None c =

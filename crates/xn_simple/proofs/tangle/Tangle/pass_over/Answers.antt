@@ -8,10 +8,14 @@ use Rattle.xn_simple.proofs.Within.{darts_below, note_in, over_none, over_past, 
 use Rattle.xn_simple.proofs.tangle.Tangle.pass_over.Goals as goal
 
 pub index-requires : goal.index-requires
-index-requires c = (note_in (lists_in c.args.self.now) c.requires.tangle c.args.d c.requires.dart).0
+index-requires c =
+    let low = note_in (lists_in c.args.self.now) c.requires.tangle c.args.d c.requires.dart in
+    omega (arith, low.0, c.args.self.now.notes.owners.ok.0)
 
 pub index-requires-2 : goal.index-requires-2
-index-requires-2 c = (note_in (lists_in c.args.self.now) c.requires.tangle c.args.d c.requires.dart).1
+index-requires-2 c =
+    let low = note_in (lists_in c.args.self.now) c.requires.tangle c.args.d c.requires.dart in
+    omega (arith, low.1, c.args.self.now.notes.places.ok.0)
 
 pub returns-then-edge-len : goal.returns-then-edge-len
 returns-then-edge-len c =
