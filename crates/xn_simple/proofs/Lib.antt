@@ -25,3 +25,4 @@ pub mod Turned
 pub mod Turns
 pub mod Untangled
 pub mod WalksApart
+pub mod Within

@@ -49,6 +49,56 @@ marks-unset four v v_in = λ i w. each w i
 
 -- ---- notes
 
+-- the first i darts of the walk are noted, and other segments as before
+pub record IsNotedTo (e : ℕ) (walk : List ℕ) (i : ℕ) (owners places owners_now places_now : List ℕ) : Type 0 where
+  pub owners_fit : length owners_now ≡ length owners
+  pub places_fit : length places_now ≡ length places
+  pub here : (x : ℕ) → x < i → (at owners_now (at walk x / 2) ≡ e) × (at places_now (at walk x / 2) ≡ x)
+  pub others : (s : ℕ) → ((x : ℕ) → x < i → at walk x / 2 ≢ s) → (at owners_now s ≡ at owners s) × (at places_now s ≡ at places s)
+
+pub noted-none : (e : ℕ) (walk owners places : List ℕ) → IsNotedTo e walk 0 owners places owners places
+noted-none e walk owners places = record {
+  owners_fit = refl;
+  places_fit = refl;
+  here = λ x x_in. absurd (omega (arith, x_in));
+  others = λ s out. (refl, refl);
+}
+
+module _ (e : ℕ) (walk : List ℕ) (i : ℕ) (owners places owners_now places_now : List ℕ) (old : IsNotedTo e walk i owners places owners_now places_now) where
+  pub noted-more : (s : ℕ) → s ≡ at walk i / 2 → i < length walk → s < length owners → length places ≡ length owners →
+      ((x y : ℕ) → x < length walk → y < length walk → at walk x / 2 ≡ at walk y / 2 → x ≡ y) →
+      IsNotedTo e walk (i + 1) owners places (set owners_now s e) (set places_now s i)
+  noted-more s s_is i_in s_in even apart =
+      let o_in : s < length owners_now = let fit = old.owners_fit in omega (arith, s_in, fit) in
+      let p_in : s < length places_now = let fit = old.places_fit in omega (arith, s_in, fit, even) in
+      record {
+        owners_fit = length-set owners_now s e ∙ old.owners_fit;
+        places_fit = length-set places_now s i ∙ old.places_fit;
+        here = λ x x_in. elim (cases_eq x i) [
+            | inl last ↦
+                let same : at walk x / 2 ≡ s = ap (λ y. at walk y / 2) last ∙ sym s_is in
+                (ap (at (set owners_now s e)) same ∙ get_or-set_same owners_now s e 0 o_in,
+                ap (at (set places_now s i)) same ∙ get_or-set_same places_now s i 0 p_in ∙ sym last)
+            | inr other ↦
+                let low : x < i = omega (arith, x_in, other) in
+                let away : at walk x / 2 ≢ s = λ same. other (apart x i (omega (arith, low, i_in)) i_in (same ∙ s_is)) in
+                let h = old.here x low in
+                (get_or-set_other owners_now s (at walk x / 2) e 0 away ∙ h.0, get_or-set_other places_now s (at walk x / 2) i 0 away ∙ h.1)
+          ];
+        others = λ r out.
+            let away : r ≢ s = λ same. out i (omega arith) (sym s_is ∙ sym same) in
+            let h = old.others r (λ x low. out x (omega (arith, low))) in
+            (get_or-set_other owners_now s r e 0 away ∙ h.0, get_or-set_other places_now s r i 0 away ∙ h.1);
+      }
+
+  pub noted-all : i ≡ length walk → IsNoted e walk owners places owners_now places_now
+  noted-all whole = record {
+    owners_fit = old.owners_fit;
+    places_fit = old.places_fit;
+    here = λ x x_in. old.here x (omega (arith, x_in, whole));
+    others = λ s out. old.others s (λ x low. out x (omega (arith, low, whole)));
+  }
+
 -- what is noted stays noted where the new walk has other segments
 pub notes_stay : (e f : ℕ) (walk old owners places owners_now places_now : List ℕ) → IsNoted e walk owners places owners_now places_now →
     ((i j : ℕ) → i < length walk → j < length old → at walk i / 2 ≢ at old j / 2) → HoldNotes owners places f old → HoldNotes owners_now places_now f old

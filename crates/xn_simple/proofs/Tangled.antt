@@ -115,7 +115,8 @@ module _ (g : Graph) (t : ListedTangle) (tangle : IsTangle g t) where
       let e_in = edge_in e (suc i) i_in in
       let on = goes_at g.nodes more.ends (straight_on more.ends four after) (walks e) (track.straight e e_in) i i_in in
       let s = arrives e i v i_in holds at_v in
-      sym (cond-true _ (after (after (reverse_of (at (walks e) i)))) (after (reverse_of (at (walks e) i))) (ap four s.there ∙ holds)) ∙ on.1
+      let b = reverse_of (at (walks e) i) in
+      sym (cond-true (four (tail_of more.ends b)) (after (after b)) (after b) (ap four s.there ∙ holds)) ∙ on.1
 
   -- another pass goes over the dart that comes next after the one by which this one leaves
   pub only_other : (e i f j v : ℕ) → suc i < length (walks e) → suc j < length (walks f) → four v ≡ true → node_in t e i ≡ v → node_in t f j ≡ v →

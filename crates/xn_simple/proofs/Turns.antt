@@ -1,13 +1,16 @@
 -- The next listed dart round a node.
-use Rattle.std.proofs.Common.{◌≡◌, ◌≢◌, ℕ, zero, suc, ◌+◌, ◌<◌, ◌≤◌, inl, inr, true, false, eqb, ltb, ◌&&◌, List, [], ◌∷◌, ◌++◌, length, get_or, refl, sym, ◌∙◌, ap, subst, arith, length-append}
+use Rattle.std.proofs.Common.{◌≡◌, ◌≢◌, ℕ, zero, suc, ◌+◌, ◌*◌, ◌<◌, ◌≤◌, inl, inr, true, false, eqb, ltb, ◌&&◌, List, [], ◌∷◌, ◌++◌, length, get_or, refl, sym, ◌∙◌, ap, subst, arith, length-append}
 use Rattle.std.proofs.lemmas.Bool.{and_from, and_parts, both_ways, cases_Bool, cases_eq, cond-true, cond-false, eq-eqb, eqb-true, lt-ltb, ltb-true}
 use Rattle.std.proofs.lemmas.List.{get_or_append_left}
 use Rattle.std.proofs.Math.Seq.{get_or-append_seam}
-use Rattle.xn_model.specs.Lists.{at, has}
-use Rattle.xn_model.specs.Permutation.{iterate}
+use Rattle.xn_model.specs.Lists.{at, has, position_in}
+use Rattle.xn_model.specs.Map.{tail_of}
+use Rattle.xn_model.specs.Permutation.{Permutes, iterate, walk}
 use Rattle.xn_model.proofs.Has.{has-at, place_of}
 use Rattle.xn_model.proofs.Tests.{same_tests}
 use Rattle.xn_genus.specs.Part.{ComesFirst, PassesOver}
+use Rattle.xn_map.specs.Listed.{IsListedMap, ListedMap}
+use Rattle.xn_map.proofs.Arcs.{nearer}
 use Rattle.xn_simple.specs.Turning.{AreDartsOnce, AreStarts, HoldPlaces, TurnsAlong}
 
 -- a dart is listed where it stands at its noted place
@@ -24,6 +27,64 @@ listed_is starts places d held = same_tests (ltb (at places d) (length starts) &
 -- one that is not listed is none of them
 pub not_listed : (starts : List ℕ) (e : ℕ) → has starts e ≡ false → (j : ℕ) → j < length starts → e ≢ at starts j
 not_listed starts e out j j_in same = both_ways _ out (ap (has starts) same ∙ has-at starts j j_in)
+
+-- ---- on the way round a node
+
+-- the walk from d came to e, and met no listed dart before
+pub record IsOnTheWay (m : ListedMap) (starts : List ℕ) (d e : ℕ) : Type 0 where
+  pub dart : e < length m.next
+  pub tail : tail_of m.web.ends e ≡ tail_of m.web.ends d
+  pub steps : ℕ
+  pub there : e ≡ iterate (at m.next) (suc steps) d
+  pub between : (i j : ℕ) → i < steps → j < length starts → iterate (at m.next) (suc i) d ≢ at starts j
+
+module _ (m : ListedMap) (is : IsListedMap m) (starts : List ℕ) (d : ℕ) (d_in : d < length m.next) where
+  in_web : (e : ℕ) → e < length m.next → e < 2 * length m.web.ends
+  in_web e e_in = let fits = is.fits in omega (arith, e_in, fits)
+
+  pub way_begins : (e : ℕ) → e ≡ at m.next d → e < length m.next → IsOnTheWay m starts d e
+  way_begins e e_is e_in = record {
+    dart = e_in;
+    tail = ap (tail_of m.web.ends) e_is ∙ is.is_map.same_node d (in_web d d_in);
+    steps = 0;
+    there = e_is;
+    between = λ i j i_in j_in. absurd (omega (arith, i_in));
+  }
+
+  pub way_on : (e f : ℕ) → IsOnTheWay m starts d e → has starts e ≡ false → f ≡ at m.next e → f < length m.next → IsOnTheWay m starts d f
+  way_on e f way out f_is f_in = record {
+    dart = f_in;
+    tail = ap (tail_of m.web.ends) f_is ∙ is.is_map.same_node e (in_web e way.dart) ∙ way.tail;
+    steps = suc way.steps;
+    there = f_is ∙ ap (at m.next) way.there;
+    between = λ i j i_in j_in same. elim (cases_eq i way.steps) [
+        | inl last ↦ not_listed starts e out j j_in (way.there ∙ ap (λ k. iterate (at m.next) (suc k) d) (sym last) ∙ same)
+        | inr before ↦ way.between i j (omega (arith, i_in, before)) j_in same
+      ];
+  }
+
+  -- each step comes nearer to d
+  pub way_nearer : (e f : ℕ) → has starts d ≡ true → IsOnTheWay m starts d e → has starts e ≡ false → f ≡ at m.next e →
+      position_in (walk (at m.next) (length m.next) f) d < position_in (walk (at m.next) (length m.next) e) d
+  way_nearer e f listed way out f_is =
+      let n = length m.next in
+      let P : ℕ → Type 0 = λ k. Permutes k (at m.next) in
+      let Q : ℕ → Type 0 = λ x. position_in (walk (at m.next) n x) d < position_in (walk (at m.next) n e) d in
+      let back = is.is_map.one_ring e d (in_web e way.dart) (in_web d d_in) way.tail in
+      subst Q (sym f_is)
+      (nearer n (at m.next) (subst P (sym is.fits) is.is_map.permutes) e d way.dart back (λ same. both_ways _ out (ap (has starts) same ∙ listed)))
+
+  -- and a listed dart is the first
+  pub way_ends : (places : List ℕ) (e : ℕ) → HoldPlaces starts places → IsOnTheWay m starts d e → has starts e ≡ true →
+      (at places e < length starts) × ComesFirst (length starts) (at starts) (at m.next) d (at starts (at places e))
+  way_ends places e held way listed =
+      let p = place_of starts e listed in
+      let place : at places e ≡ p.0 = ap (at places) (sym p.2) ∙ held p.0 p.1 in
+      (let low = p.1 in omega (arith, low, place), record {
+        steps = way.steps;
+        there = sym way.there ∙ sym p.2 ∙ ap (at starts) (sym place);
+        between = way.between;
+      })
 
 -- the turns of the first darts pass over all others
 pub record OverFirst (next : ℕ → ℕ) (starts turns : List ℕ) (d : ℕ) : Type 0 where

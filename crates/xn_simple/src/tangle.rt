@@ -1,7 +1,7 @@
 // Walks over a map that stays as it is, while they are cut and joined so that they meet less.
-ghost use Rattle.std.specs.Prelude.{◌≡◌, ◌*◌, ◌/◌, ◌<◌, ℕ, suc, true, length};
+ghost use Rattle.std.specs.Prelude.{◌≡◌, ◌*◌, ◌/◌, ◌<◌, ◌≤◌, ℕ, suc, true, length};
 ghost use Rattle.xn_model.specs.Lists.{at};
-ghost use Rattle.xn_simple.specs.Tangle.{IsNoted, IsOther, IsPassIn, IsPassOver, IsWalkPut, IsSomeTangle, lists_in, named, node_in, unmarked, walk_in};
+ghost use Rattle.xn_simple.specs.Tangle.{IsNoted, IsNotedAt, IsOther, IsPassIn, IsPassOver, IsWalkPut, IsSomeTangle, lists_in, named, node_in, unmarked, walk_in};
 
 use xn_map::Map;
 
@@ -80,8 +80,8 @@ impl Tangle {
         requires place { suc i < length (walk_in (lists_in self.now) e) }
         ensures { result ≡ named (lists_in self.now) (node_in (lists_in self.now) e i) }
     {
-        let d = self.walks[e as usize][i + 1];
-        self.four[self.map.tail(d) as usize]
+        let v = self.map.tail(self.leaving(e, i));
+        self.four[v as usize]
     }
 
     /// The other pass of the node that the walk of an edge passes at a place, where walks may still cross there.
@@ -91,8 +91,7 @@ impl Tangle {
         requires holds { named (lists_in self.now) (node_in (lists_in self.now) e i) ≡ true }
         ensures { IsOther (lists_in self.now) e i result }
     {
-        let d = self.walks[e as usize][i + 1];
-        match self.pass_over(self.map.next(d)) {
+        match self.pass_over(self.map.next(self.leaving(e, i))) {
             Some(pass) => {
                 if pass.edge == e && pass.place == i {
                     None
@@ -102,6 +101,16 @@ impl Tangle {
             }
             None => None,
         }
+    }
+
+    // The dart by which the walk of an edge leaves the node that it passes at a place.
+    fn leaving(&self, e: u32, i: usize) -> u32
+        requires tangle { IsSomeTangle (lists_in self.now) }
+        requires place { suc i < length (walk_in (lists_in self.now) e) }
+        ensures value { result ≡ at (walk_in (lists_in self.now) e) (suc i) }
+        ensures dart { result < length self.now.map.next }
+    {
+        self.walks[e as usize][i + 1]
     }
 
     // The pass of the node of a dart that goes over it, if there is one.
@@ -131,10 +140,23 @@ fn pass_in(map: &Map, walk: &[u32], noted: usize, d: u32) -> Option<usize>
     if noted >= walk.len() {
         return None;
     }
-    let place = if walk[noted] == d && noted > 0 { noted - 1 } else { noted };
+    let place = place_before(walk, noted, d);
     if place + 1 < walk.len() && map.tail(walk[place + 1]) == map.tail(d) {
         Some(place)
     } else {
         None
+    }
+}
+
+// The place from which a walk goes over a dart: the noted one where it has the reverse there, and else the one before.
+fn place_before(walk: &[u32], noted: usize, d: u32) -> usize
+    requires { noted < length walk.now }
+    ensures below { result ≤ noted }
+    ensures place { (j : ℕ) → IsNotedAt walk.now j d noted → result ≡ j }
+{
+    if walk[noted] == d && noted > 0 {
+        noted - 1
+    } else {
+        noted
     }
 }

@@ -1,5 +1,5 @@
 // Some darts of a map under numbers of their own.
-ghost use Rattle.std.specs.Prelude.{◌≡◌, ℕ, ◌^◌, ◌<◌, ◌≤◌, length, IfOk};
+ghost use Rattle.std.specs.Prelude.{◌≡◌, ℕ, ◌^◌, ◌<◌, ◌≤◌, true, length, IfOk};
 ghost use Rattle.xn_model.specs.Lists.{at, has};
 ghost use Rattle.xn_genus.specs.Part.{ComesFirst, PassesOver};
 ghost use Rattle.xn_map.specs.Listed.{IsListedMap};

@@ -1,20 +1,26 @@
-use Rattle.std.proofs.Common.{◌≡◌, ◌≢◌, ℕ, suc, ◌<◌, false, inl, inr, length, refl, sym, ◌∙◌, ap, arith}
-use Rattle.std.proofs.lemmas.Bool.{both_ways, cases_eq}
-use Rattle.xn_model.specs.Lists.{at, has}
-use Rattle.xn_model.specs.Map.{tail_of}
-use Rattle.xn_model.specs.Permutation.{iterate}
-use Rattle.xn_model.proofs.Has.{place_of}
-use Rattle.xn_map.proofs.Arcs.{nearer}
-use Rattle.xn_simple.proofs.Turns.{not_listed}
+use Rattle.std.proofs.Common.{length, sym, ◌∙◌, ap, subst}
+use Rattle.xn_simple.proofs.Turns.{way_begins, way_ends, way_nearer, way_on}
 use Rattle.xn_simple.proofs.turning.place_after.Goals as goal
 
 pub loop-e-init : goal.loop-e-init
-loop-e-init c =
-    let m = c.args.map.now in
-    let d = c.args.d in
-    let low : d < 2 * length m.web.ends = omega (arith, c.requires.dart, c.requires.is_map.fits) in
-    record {
-      dart = c.next.ensures.dart;
-      tail = ap (tail_of m.web.ends) c.next.ensures.value ∙ c.requires.is_map.is_map.same_node d low;
-      walk = (0, c.next.ensures.value, λ i j i_in j_in same. omega (arith, i_in));
-    }
+loop-e-init c = way_begins c.args.map.now c.requires.is_map c.args.starts.now c.args.d c.requires.dart c.next-e.result c.next-e.ensures.value c.next-e.ensures.dart
+
+pub loop-e-preserved : goal.loop-e-preserved
+loop-e-preserved c =
+    way_on c.args.map.now c.requires.is_map c.args.starts.now c.args.d c.requires.dart c.loop-e.e c.next-e-in-loop-e.result c.loop-e.invariant
+    (sym c.is_listed.ensures ∙ c.loop-e-test.true) c.next-e-in-loop-e.ensures.value c.next-e-in-loop-e.ensures.dart
+
+pub loop-e-smaller : goal.loop-e-smaller
+loop-e-smaller c =
+    way_nearer c.args.map.now c.requires.is_map c.args.starts.now c.args.d c.requires.dart c.loop-e.e c.next-e-in-loop-e.result c.requires.listed c.loop-e.invariant
+    (sym c.is_listed.ensures ∙ c.loop-e-test.true) c.next-e-in-loop-e.ensures.value
+
+pub returns-clause-below : goal.returns-clause-below
+returns-clause-below c =
+    (way_ends c.args.map.now c.requires.is_map c.args.starts.now c.args.d c.requires.dart c.args.places.now c.loop-e.e c.requires.places c.loop-e.invariant
+    (sym c.is_listed.ensures ∙ c.loop-e-test.false)).0
+
+pub returns-clause-first : goal.returns-clause-first
+returns-clause-first c =
+    (way_ends c.args.map.now c.requires.is_map c.args.starts.now c.args.d c.requires.dart c.args.places.now c.loop-e.e c.requires.places c.loop-e.invariant
+    (sym c.is_listed.ensures ∙ c.loop-e-test.false)).1

@@ -1,17 +1,12 @@
-use Rattle.std.proofs.Common.{◌≡◌, ◌≢◌, ℕ, suc, ◌<◌, length}
+use Rattle.std.proofs.Common.{length}
 use Rattle.xn_model.specs.Lists.{at, position_in}
-use Rattle.xn_model.specs.Map.{tail_of}
-use Rattle.xn_model.specs.Permutation.{iterate, walk}
+use Rattle.xn_model.specs.Permutation.{walk}
+use Rattle.xn_simple.proofs.Turns.{IsOnTheWay}
 use Rattle.xn_simple.proofs.turning.place_after.Given as goal
 
 -- on the way from d no listed dart was met
 abbrev pub invariant-loop-e : goal.invariant-loop-e
-invariant-loop-e l = record {
-  dart : l.e < length l.map.next;
-  tail : tail_of l.map.web.ends l.e ≡ tail_of l.map.web.ends l.d;
-  walk : (k : ℕ) × (l.e ≡ iterate (at l.map.next) (suc k) l.d)
-      × ((i j : ℕ) → i < k → j < length l.starts → iterate (at l.map.next) (suc i) l.d ≢ at l.starts j);
-}
+invariant-loop-e l = IsOnTheWay l.map l.starts l.d l.e
 
 -- the steps from here back to d
 abbrev pub decreases-loop-e : goal.decreases-loop-e

@@ -1,0 +1,27 @@
+use Rattle.std.proofs.Common.{◌≡◌, ◌<◌, suc, true, false, Some, None, sym, ◌∙◌, arith}
+use Rattle.xn_simple.specs.Tangle.{lists_in}
+use Rattle.xn_simple.proofs.Found.{another_met, met_there, never_before, never_named, never_passed}
+use Rattle.xn_simple.proofs.tangle.Tangle.met_before.Goals as goal
+
+pub is_named-requires-clause-place : goal.is_named-requires-clause-place
+is_named-requires-clause-place c = omega (arith, c.requires.place, c.if-first-i.false)
+
+pub returns-then-first-i : goal.returns-then-first-i
+returns-then-first-i c = ?
+
+pub other_pass-requires-clause-place : goal.other_pass-requires-clause-place
+other_pass-requires-clause-place c = omega (arith, c.requires.place, c.if-first-i.false)
+
+pub other_pass-requires-clause-holds : goal.other_pass-requires-clause-holds
+other_pass-requires-clause-holds c = ?
+
+pub returns-then-pass-f : goal.returns-then-pass-f
+returns-then-pass-f c =
+    met_there c.requires.tangle.0 (lists_in c.args.self.now) c.args.e c.args.first c.args.i c.args.f c.in-Some.pass c.if-first-i.false c.in-Some.ensures c.if-pass-f.true
+
+pub returns-else-pass-f : goal.returns-else-pass-f
+returns-else-pass-f c =
+    another_met c.requires.tangle.0 (lists_in c.args.self.now) c.args.e c.args.first c.args.i c.args.f c.in-Some.pass c.in-Some.ensures c.if-pass-f.false
+
+pub returns-in-None : goal.returns-in-None
+returns-in-None c = never_passed c.requires.tangle.0 (lists_in c.args.self.now) c.args.e c.args.first c.args.i c.args.f c.in-None.ensures
