@@ -1,8 +1,8 @@
 -- What is read off walks, step by step: the numbers of edges, the lists along the walks, and the darts at which they start.
-use Rattle.std.proofs.Common.{◌≡◌, ◌≢◌, ℕ, zero, suc, ◌+◌, ◌-◌, ◌*◌, ◌^◌, ◌<◌, ◌≤◌, inl, inr, Bool, true, false, Option, Some, None, List, [], ◌∷◌, ◌++◌, length, drop, map, set, take, is_some, slice_index_or, refl, sym, ◌∙◌, ap, ap₂, subst, arith, append_assoc, if◌then◌else◌}
+use Rattle.std.proofs.Common.{◌≡◌, ◌≢◌, ℕ, zero, suc, ◌+◌, ◌-◌, ◌*◌, ◌^◌, ◌<◌, ◌≤◌, inl, inr, Bool, true, false, Option, Some, None, List, [], ◌∷◌, ◌++◌, length, get_or, drop, map, set, take, is_some, slice_index_or, refl, sym, ◌∙◌, ap, ap₂, subst, arith, append_assoc, if◌then◌else◌}
 use Rattle.std.specs.List.{flat_map, list_any}
 use Rattle.std.proofs.lemmas.Bool.{and_parts, cases_eq, cases_order, cond-true}
-use Rattle.std.proofs.lemmas.List.{append-nil, drop_all, get_or-set_other, get_or-set_same, map_more, take_all}
+use Rattle.std.proofs.lemmas.List.{append-nil, drop_all, get_or_read, get_or-set_other, get_or-set_same, map_more, take_all}
 use Rattle.std.proofs.lemmas.List.Kept.{AllPairs-from_increasing}
 use Rattle.xn_model.specs.Graph.{Graph}
 use Rattle.xn_model.specs.Lists.{at, has, position_in}
@@ -49,6 +49,10 @@ none_if false x same = refl
 pub is_some_if : (b : Bool) (x : ℕ) → is_some (if b then Some x else None) ≡ b
 is_some_if true x = refl
 is_some_if false x = refl
+
+-- an element that is read from a list that is known
+pub read_is : (xs ds : List ℕ) (k x : ℕ) → xs ≡ ds → k < length ds → x ≡ get_or xs k x → x ≡ at ds k
+read_is xs ds k x is k_in read = let size = ap length is in get_or_read xs k x (omega (arith, k_in, size)) read 0 ∙ ap (λ l. at l k) is
 
 -- ---- numbers
 
@@ -113,6 +117,10 @@ module _ (g : Graph) (t : ListedTangle) (done : IsUntangled g t) where
       let met : (named t v ≡ true) × (list_any (is_other ends walks e v) t.edges ≡ true) = and_parts _ _ is.0 in
       let first = first_passing_is (is_other ends walks e v) t.edges met.1 in
       edge_below f (ap (has t.edges) is.1 ∙ first.0)
+
+  -- whether one is crossed
+  pub crossed_test : (e v : ℕ) (found : Option ℕ) → found ≡ crossed_at t e v → is_some found ≡ crossed e v
+  crossed_test e v found same = ap is_some same ∙ is_some_if (crossed e v) (other e v)
 
   module _ (e : ℕ) (e_in : has t.edges e ≡ true) where
     abbrev walk : List ℕ
