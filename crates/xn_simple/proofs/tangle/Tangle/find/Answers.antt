@@ -1,19 +1,15 @@
-use Rattle.std.proofs.Common.{◌≡◌, ◌+◌, ◌-◌, ◌<◌, ◌≤◌, ℕ, suc, List, length, sym, ◌∙◌, ap, subst, arith}
-use Rattle.std.specs.Prelude.{vec_items}
-use Rattle.std.specs.Global.{Global}
-use Rattle.std.proofs.lemmas.List.{length-map}
-use Rattle.xn_simple.specs.Tangle.{lists_in, walk_in}
+use Rattle.std.proofs.Common.{◌≡◌, ◌+◌, ◌-◌, ℕ, suc, List, length, refl, sym, ◌∙◌, ap, subst, arith}
+use Rattle.xn_simple.specs.Tangle.{lists_in}
 use Rattle.xn_simple.specs.Untangling.{MeetsSoFar}
 use Rattle.xn_simple.proofs.Found.{meets_well, none_met, not_named}
-use Rattle.xn_simple.proofs.Within.{edge_below, vec_read}
+use Rattle.xn_simple.proofs.Within.{edge_given, vec_read}
 use Rattle.xn_simple.proofs.tangle.Tangle.find.Goals as goal
 use Rattle.xn_simple.proofs.tangle.Tangle.find.Goals.{then-is_named+in_default, else-is_named}
 
 pub index-requires : goal.index-requires
 index-requires c =
-    let low = edge_below c.args.graph.now (lists_in c.args.self.now) c.requires.tangle c.args.e c.requires.edge in
-    let size = length-map c.args.self.now.walks.items (vec_items {Z = Global}) in
-    omega (arith, low, size, c.requires.tangle.lists, c.args.self.now.walks.ok.0)
+    let low = edge_given c.args.graph.now (lists_in c.args.self.now) c.requires.tangle c.args.self.now.walks.items refl c.args.e c.requires.edge in
+    omega (arith, low, c.args.self.now.walks.ok.0)
 
 pub loop-i-init : goal.loop-i-init
 loop-i-init c = none_met c.args.graph.now (lists_in c.args.self.now) c.args.e c.args.met.now c.requires.met
@@ -24,18 +20,14 @@ is_named-requires-clause-tangle c = (c.args.graph.now, c.requires.tangle)
 pub is_named-requires-clause-place : goal.is_named-requires-clause-place
 is_named-requires-clause-place c =
     let vecs = c.args.self.now.walks.items in
-    let low = edge_below c.args.graph.now (lists_in c.args.self.now) c.requires.tangle c.args.e c.requires.edge in
-    let size = length-map vecs (vec_items {Z = Global}) in
-    let e_in : c.args.e < length vecs = omega (arith, low, size, c.requires.tangle.lists) in
+    let e_in = edge_given c.args.graph.now (lists_in c.args.self.now) c.requires.tangle vecs refl c.args.e c.requires.edge in
     let is = vec_read vecs c.args.e c.index.result.now e_in c.index.ensures in
     omega (arith, c.loop-i.auto.i, c.loop-i-test.true, c.len-i-end.ensures, c.index.result.now.ok.0, ap length is)
 
 pub find_at-requires-clause-place : goal.find_at-requires-clause-place
 find_at-requires-clause-place c =
     let vecs = c.args.self.now.walks.items in
-    let low = edge_below c.args.graph.now (lists_in c.args.self.now) c.requires.tangle c.args.e c.requires.edge in
-    let size = length-map vecs (vec_items {Z = Global}) in
-    let e_in : c.args.e < length vecs = omega (arith, low, size, c.requires.tangle.lists) in
+    let e_in = edge_given c.args.graph.now (lists_in c.args.self.now) c.requires.tangle vecs refl c.args.e c.requires.edge in
     let is = vec_read vecs c.args.e c.index.result.now e_in c.index.ensures in
     omega (arith, c.loop-i.auto.i, c.loop-i-test.true, c.len-i-end.ensures, c.index.result.now.ok.0, ap length is)
 
@@ -78,8 +70,6 @@ pub returns-clause-none : goal.returns-clause-none
 returns-clause-none c =
     let vecs = c.args.self.now.walks.items in
     let t = lists_in c.args.self.now in
-    let low = edge_below c.args.graph.now t c.requires.tangle c.args.e c.requires.edge in
-    let size = length-map vecs (vec_items {Z = Global}) in
-    let e_in : c.args.e < length vecs = omega (arith, low, size, c.requires.tangle.lists) in
+    let e_in = edge_given c.args.graph.now t c.requires.tangle vecs refl c.args.e c.requires.edge in
     let is = vec_read vecs c.args.e c.index.result.now e_in c.index.ensures in
     meets_well c.args.graph.now t c.args.e c.loop-i.i c.loop-i.met (omega (arith, c.loop-i-test.false, c.len-i-end.ensures, c.index.result.now.ok.0, ap length is)) c.loop-i.invariant

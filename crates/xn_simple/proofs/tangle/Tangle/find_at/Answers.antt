@@ -1,4 +1,4 @@
-use Rattle.std.proofs.Common.{◌≡◌, ◌≢◌, ℕ, suc, min, max, Some, None, refl, sym, ◌∙◌, ap, subst, arith}
+use Rattle.std.proofs.Common.{ℕ, suc, min, Some, refl, sym, subst, arith}
 use Rattle.xn_model.specs.Lists.{at}
 use Rattle.xn_simple.specs.Tangle.{lists_in}
 use Rattle.xn_simple.specs.Untangling.{GoesOnWith}

@@ -1,4 +1,4 @@
-use Rattle.std.proofs.Common.{◌≡◌, ◌<◌, suc, true, false, Some, None, sym, ◌∙◌, arith}
+use Rattle.std.proofs.Common.{sym, ◌∙◌, arith}
 use Rattle.xn_simple.specs.Tangle.{lists_in}
 use Rattle.xn_simple.proofs.Found.{another_met, met_there, never_before, never_named, never_passed}
 use Rattle.xn_simple.proofs.tangle.Tangle.met_before.Goals as goal
