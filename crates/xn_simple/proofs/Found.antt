@@ -60,17 +60,17 @@ module _ (g : Graph) (t : ListedTangle) (e : ℕ) where
   more_met i met now so fits own others kept = record {
     fits = fits;
     itself = λ k j low m. elim (cases_eq k i) [
-        | inl here ↦ here ∙ own j (subst (λ x. MeetAt t e x e j) here m)
-        | inr before ↦ so.itself k j (omega (arith, low, before)) m
-      ];
+      | inl here ↦ here ∙ own j (subst (λ x. MeetAt t e x e j) here m)
+      | inr before ↦ so.itself k j (omega (arith, low, before)) m
+    ];
     apart = λ k f j low differ m. elim (cases_eq k i) [
-        | inl here ↦ (others f j differ (subst (λ x. MeetAt t e x f j) here m)).0
-        | inr before ↦ so.apart k f j (omega (arith, low, before)) differ m
-      ];
+      | inl here ↦ (others f j differ (subst (λ x. MeetAt t e x f j) here m)).0
+      | inr before ↦ so.apart k f j (omega (arith, low, before)) differ m
+    ];
     noted = λ k f j low differ m. elim (cases_eq k i) [
-        | inl here ↦ (others f j differ (subst (λ x. MeetAt t e x f j) here m)).1 ∙ sym here
-        | inr before ↦ kept k f j (omega (arith, low, before)) differ m ∙ so.noted k f j (omega (arith, low, before)) differ m
-      ];
+      | inl here ↦ (others f j differ (subst (λ x. MeetAt t e x f j) here m)).1 ∙ sym here
+      | inr before ↦ kept k f j (omega (arith, low, before)) differ m ∙ so.noted k f j (omega (arith, low, before)) differ m
+    ];
   }
 
   -- nothing may cross there
@@ -125,7 +125,9 @@ module _ (g : Graph) (t : ListedTangle) (e : ℕ) where
 
         pub twice : (first : ℕ) (before : Pass) → (first < i) × (before.edge ≡ p.edge) × MeetAt t e first p.edge before.place →
             GoesOnWith g t e i (set met p.edge i) (Some (Middles first i before p))
-        twice first before has = a_step (set met p.edge i) (Middles first i before p) now_fits (has.1, record {
+        twice first before has = a_step (set met p.edge i) (Middles first i before p) now_fits (
+          has.1,
+          record {
             differ = λ same. differ (same ∙ has.1);
             order = has.0;
             first = subst (λ h. MeetAt t e first h before.place) (sym has.1) has.2;
@@ -134,7 +136,8 @@ module _ (g : Graph) (t : ListedTangle) (e : ℕ) where
               | inl own ↦ let low = has.0 in omega (arith, low, own.1)
               | inr some ↦ differ (sym (ap (λ q. q.edge) (some_same p (pass_of e first) some)))
             ];
-          })
+          },
+        )
 
         pub once : Independent g.ends e p.edge → p.edge < length g.ends → HasMetBefore t e (at met p.edge) i p.edge None → GoesOnWith g t e i (set met p.edge i) None
         once free f_in before = record {

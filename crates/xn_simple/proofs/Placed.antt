@@ -75,16 +75,17 @@ module _ (e : ℕ) (walk : List ℕ) (i : ℕ) (owners places owners_now places_
         owners_fit = length-set owners_now s e ∙ old.owners_fit;
         places_fit = length-set places_now s i ∙ old.places_fit;
         here = λ x x_in. elim (cases_eq x i) [
-            | inl last ↦
-                let same : at walk x / 2 ≡ s = ap (λ y. at walk y / 2) last ∙ sym s_is in
-                (ap (at (set owners_now s e)) same ∙ get_or-set_same owners_now s e 0 o_in,
-                ap (at (set places_now s i)) same ∙ get_or-set_same places_now s i 0 p_in ∙ sym last)
-            | inr other ↦
-                let low : x < i = omega (arith, x_in, other) in
-                let away : at walk x / 2 ≢ s = λ same. other (apart x i (omega (arith, low, i_in)) i_in (same ∙ s_is)) in
-                let h = old.here x low in
-                (get_or-set_other owners_now s (at walk x / 2) e 0 away ∙ h.0, get_or-set_other places_now s (at walk x / 2) i 0 away ∙ h.1)
-          ];
+          | inl last ↦
+              let same : at walk x / 2 ≡ s = ap (λ y. at walk y / 2) last ∙ sym s_is in (
+                ap (at (set owners_now s e)) same ∙ get_or-set_same owners_now s e 0 o_in,
+                ap (at (set places_now s i)) same ∙ get_or-set_same places_now s i 0 p_in ∙ sym last,
+              )
+          | inr other ↦
+              let low : x < i = omega (arith, x_in, other) in
+              let away : at walk x / 2 ≢ s = λ same. other (apart x i (omega (arith, low, i_in)) i_in (same ∙ s_is)) in
+              let h = old.here x low in
+              (get_or-set_other owners_now s (at walk x / 2) e 0 away ∙ h.0, get_or-set_other places_now s (at walk x / 2) i 0 away ∙ h.1)
+        ];
         others = λ r out.
             let away : r ≢ s = λ same. out i (omega arith) (sym s_is ∙ sym same) in
             let h = old.others r (λ x low. out x (omega (arith, low))) in

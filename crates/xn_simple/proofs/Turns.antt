@@ -58,9 +58,9 @@ module _ (m : ListedMap) (is : IsListedMap m) (starts : List ℕ) (d : ℕ) (d_i
     steps = suc way.steps;
     there = f_is ∙ ap (at m.next) way.there;
     between = λ i j i_in j_in same. elim (cases_eq i way.steps) [
-        | inl last ↦ not_listed starts e out j j_in (way.there ∙ ap (λ k. iterate (at m.next) (suc k) d) (sym last) ∙ same)
-        | inr before ↦ way.between i j (omega (arith, i_in, before)) j_in same
-      ];
+      | inl last ↦ not_listed starts e out j j_in (way.there ∙ ap (λ k. iterate (at m.next) (suc k) d) (sym last) ∙ same)
+      | inr before ↦ way.between i j (omega (arith, i_in, before)) j_in same
+    ];
   }
 
   -- each step comes nearer to d
@@ -79,12 +79,14 @@ module _ (m : ListedMap) (is : IsListedMap m) (starts : List ℕ) (d : ℕ) (d_i
       (at places e < length starts) × ComesFirst (length starts) (at starts) (at m.next) d (at starts (at places e))
   way_ends places e held way listed =
       let p = place_of starts e listed in
-      let place : at places e ≡ p.0 = ap (at places) (sym p.2) ∙ held p.0 p.1 in
-      (let low = p.1 in omega (arith, low, place), record {
-        steps = way.steps;
-        there = sym way.there ∙ sym p.2 ∙ ap (at starts) (sym place);
-        between = way.between;
-      })
+      let place : at places e ≡ p.0 = ap (at places) (sym p.2) ∙ held p.0 p.1 in (
+        let low = p.1 in omega (arith, low, place),
+        record {
+          steps = way.steps;
+          there = sym way.there ∙ sym p.2 ∙ ap (at starts) (sym place);
+          between = way.between;
+        },
+      )
 
 -- the turns of the first darts pass over all others
 pub record OverFirst (next : ℕ → ℕ) (starts turns : List ℕ) (d : ℕ) : Type 0 where

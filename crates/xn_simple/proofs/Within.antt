@@ -69,6 +69,14 @@ edge_below g t tangle e e_in = has-all (λ f. f < length g.ends) t.edges tangle.
 pub walked_below : (g : Graph) (t : ListedTangle) → IsTangle g t → (e i : ℕ) → i < length (walk_in t e) → e < length g.ends
 walked_below g t tangle e i i_in = edge_below g t tangle e (edge_in g t tangle e i i_in)
 
+-- its walk is one of the lists
+pub edge_given : (g : Graph) (t : ListedTangle) → IsTangle g t → (vecs : List (Vec ℕ Global)) → t.walks ≡ lists_of vecs → (e : ℕ) → has t.edges e ≡ true → e < length vecs
+edge_given g t tangle vecs walks e e_in =
+    let low = edge_below g t tangle e e_in in
+    let lists = tangle.lists in
+    let size = ap length walks ∙ length-map vecs (vec_items {Z = Global}) in
+    omega (arith, low, lists, size)
+
 -- ---- the pass in one walk
 
 no_place : (j : ℕ) → Path (Option ℕ) None (Some j) → ⊥

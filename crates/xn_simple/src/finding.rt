@@ -79,13 +79,7 @@ impl Tangle {
             return None;
         }
         match self.other_pass(e, first) {
-            Some(pass) => {
-                if pass.edge == f {
-                    Some(pass)
-                } else {
-                    None
-                }
-            }
+            Some(pass) => { if pass.edge == f { Some(pass) } else { None } }
             None => None,
         }
     }

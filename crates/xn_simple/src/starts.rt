@@ -24,12 +24,7 @@ pub fn push_starts(starts: &mut Vec<u32>, orders: &Orders, map: &Map) -> Result<
 }
 
 // Appends those of an edge. Its segments begin with `first`.
-fn push_along(
-    starts: &mut Vec<u32>,
-    map: &Map,
-    first: u32,
-    list: &[u32],
-) -> Result<(), AllocError>
+fn push_along(starts: &mut Vec<u32>, map: &Map, first: u32, list: &[u32]) -> Result<(), AllocError>
     requires few { length map.now.next ≤ 2 ^ 31 }
     requires darts { 2 * (first + length list.now + 1) ≤ length map.now.next }
     ensures { OnOk result (starts.new.items ≡ starts.old.items ++ starts_along (at map.now.next) first list.now) }

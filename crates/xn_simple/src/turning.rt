@@ -21,7 +21,12 @@ pub fn turns_along(alloc: Global, map: &Map, starts: &[u32]) -> Result<Vec<u32>,
 }
 
 // The place of the listed dart that comes next after each.
-fn turns_by(alloc: Global, map: &Map, starts: &[u32], places: &[u32]) -> Result<Vec<u32>, AllocError>
+fn turns_by(
+    alloc: Global,
+    map: &Map,
+    starts: &[u32],
+    places: &[u32],
+) -> Result<Vec<u32>, AllocError>
     requires is_map { IsListedMap map.now }
     requires once { AreDartsOnce (length map.now.next) starts.now }
     requires places { HoldPlaces starts.now places.now }

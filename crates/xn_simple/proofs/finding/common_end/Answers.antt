@@ -1,4 +1,4 @@
-use Rattle.std.proofs.Common.{◌≡◌, ℕ, sym, ◌∙◌, ap}
+use Rattle.std.proofs.Common.{ℕ, sym, ◌∙◌, ap}
 use Rattle.xn_simple.proofs.Sharing.{independent_from}
 use Rattle.xn_simple.proofs.finding.common_end.Goals as goal
 

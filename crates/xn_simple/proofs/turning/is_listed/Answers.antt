@@ -1,4 +1,4 @@
-use Rattle.std.proofs.Common.{◌≡◌, true, false, ◌&&◌, eqb, ltb, length, sym, ◌∙◌, ap}
+use Rattle.std.proofs.Common.{◌≡◌, false, ◌&&◌, eqb, ltb, length, sym, ◌∙◌, ap}
 use Rattle.std.proofs.lemmas.Bool.{and_left, le-ltb, lt-ltb}
 use Rattle.xn_model.specs.Lists.{at}
 use Rattle.xn_simple.proofs.Turns.{listed_is}

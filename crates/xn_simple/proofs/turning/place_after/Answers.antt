@@ -1,4 +1,4 @@
-use Rattle.std.proofs.Common.{length, sym, ◌∙◌, ap, subst}
+use Rattle.std.proofs.Common.{sym, ◌∙◌}
 use Rattle.xn_simple.proofs.Turns.{way_begins, way_ends, way_nearer, way_on}
 use Rattle.xn_simple.proofs.turning.place_after.Goals as goal
 

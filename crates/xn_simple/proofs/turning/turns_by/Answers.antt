@@ -1,4 +1,4 @@
-use Rattle.std.proofs.Common.{◌≡◌, ◌+◌, ◌<◌, List, ℕ, length, sym, ◌∙◌, subst, ap, arith}
+use Rattle.std.proofs.Common.{◌+◌, List, ℕ, sym, subst, arith}
 use Rattle.xn_model.specs.Lists.{at}
 use Rattle.xn_model.proofs.Has.{has-at}
 use Rattle.xn_simple.proofs.Turns.{OverFirst, over-more, passes_over_all}
@@ -16,7 +16,7 @@ loop-d-preserved c =
     let starts = c.args.starts.now in
     let d = c.loop-d.d-index in
     let P : List ℕ → Type 0 = λ xs. OverFirst next starts xs (d + 1) in
-    subst P (sym c.in_ok-push.ensures.items)
+    subst P (sym {A = List ℕ} c.in_ok-push.ensures.items)
     (over-more next starts c.loop-d.turns.items d c.place_after.result c.place_after.ensures.below c.place_after.ensures.first c.loop-d.invariant)
 
 pub returns-clause-over : goal.returns-clause-over

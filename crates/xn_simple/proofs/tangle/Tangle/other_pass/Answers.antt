@@ -1,7 +1,6 @@
-use Rattle.std.proofs.Common.{◌≡◌, ℕ, suc, Option, Some, None, inl, inr, refl, ◌∙◌, ap, subst}
+use Rattle.std.proofs.Common.{◌≡◌, ℕ, suc, Some, None, inl, inr, refl, ◌∙◌, ap, subst}
 use Rattle.xn_model.specs.Lists.{at}
 use Rattle.xn_simple.specs.Tangle.{IsPassOver, lists_in, walk_in}
-use Rattle.xn_simple.specs.declared.tangle.Pass.{Pass}
 use Rattle.xn_simple.proofs.Tangled.{other_none, other_same, other_some}
 use Rattle.xn_simple.proofs.tangle.Tangle.other_pass.Goals as goal
 

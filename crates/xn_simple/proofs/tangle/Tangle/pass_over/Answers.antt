@@ -1,8 +1,7 @@
-use Rattle.std.proofs.Common.{◌≡◌, ◌+◌, ◌/◌, ◌<◌, ◌≤◌, List, ℕ, Option, Some, None, length, refl, sym, ◌∙◌, ap, subst, arith}
+use Rattle.std.proofs.Common.{◌≡◌, ◌/◌, ◌<◌, List, ℕ, Some, None, length, refl, ◌∙◌, subst, arith}
 use Rattle.std.specs.Prelude.{vec_items}
 use Rattle.std.specs.Global.{Global}
 use Rattle.std.proofs.lemmas.List.{get_or_read, length-map}
-use Rattle.xn_model.specs.Lists.{at}
 use Rattle.xn_simple.specs.Tangle.{IsPassIn, lists_in, walk_in}
 use Rattle.xn_simple.proofs.Within.{darts_below, note_in, over_none, over_past, over_some, vec_read}
 use Rattle.xn_simple.proofs.tangle.Tangle.pass_over.Goals as goal
