@@ -1,4 +1,7 @@
 pub mod Crossed
 pub mod Loosened
+pub mod Tangle
+pub mod Tidied
 pub mod Turning
+pub mod Untangling
 pub mod Untouched

@@ -2,7 +2,12 @@
 use Rattle.std.specs.Prelude.{◌≡◌, ℕ, ◌<◌, List, length}
 use Rattle.xn_model.specs.Lists.{at}
 
--- the listed darts are different darts below the bound, and after each comes one of them
+-- the listed darts are different darts below the bound
+pub record AreDartsOnce (count : ℕ) (starts : List ℕ) : Type 0 where
+  pub below : (x : ℕ) → x < length starts → at starts x < count
+  pub apart : (x y : ℕ) → x < length starts → y < length starts → at starts x ≡ at starts y → x ≡ y
+
+-- and after each comes one of them
 pub record AreStarts (count : ℕ) (next : ℕ → ℕ) (starts : List ℕ) : Type 0 where
   pub below : (x : ℕ) → x < length starts → at starts x < count
   pub apart : (x y : ℕ) → x < length starts → y < length starts → at starts x ≡ at starts y → x ≡ y
