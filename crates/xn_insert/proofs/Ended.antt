@@ -1,19 +1,17 @@
 -- The last segment of an edge that comes in: what is then a loose drawing of the edges and it.
-use Rattle.std.proofs.Common.{◌≡◌, ◌≢◌, ℕ, zero, suc, ◌+◌, ◌*◌, ◌<◌, ◌≤◌, inl, inr, Bool, true, false, ◌||◌, eqb, List, [], ◌∷◌, ◌++◌, length, refl, sym, ◌∙◌, ap, subst, arith}
+use Rattle.std.proofs.Common.{◌≡◌, ◌≢◌, ℕ, zero, suc, ◌+◌, ◌*◌, ◌<◌, inl, inr, Bool, true, false, ◌||◌, eqb, List, [], ◌∷◌, ◌++◌, length, refl, sym, ◌∙◌, ap, subst, arith}
 use Rattle.std.specs.List.{range_with_len}
 use Rattle.std.specs.Prelude.{filter}
 use Rattle.std.proofs.lemmas.Bool.{cases_eq, cond-false, cond-true, eq-eqb, ne_eqb, or_right}
-use Rattle.xn_model.specs.Graph.{Graph, IsGraph, ends_at}
+use Rattle.xn_model.specs.Graph.{Graph}
 use Rattle.xn_model.specs.Lists.{at, has}
 use Rattle.xn_model.specs.Loose.{CrossesTo, IsLoose, IsRoute, IsRouteLength}
-use Rattle.xn_model.specs.Map.{IsMap, Joined, MeetsEuler, WalksTo, face_step, reverse_of, tail_of}
+use Rattle.xn_model.specs.Map.{IsMap, Joined, face_step, reverse_of, tail_of}
 use Rattle.xn_model.specs.Permutation.{Reaches, iterate}
 use Rattle.xn_model.proofs.ComponentWalks.{joined_dart, joined_trans}
 use Rattle.xn_model.proofs.Darts.{reverse_below}
 use Rattle.xn_ring.proofs.Orbits.{iterate_below}
 use Rattle.xn_genus.proofs.Counts.{Permutes-face}
-use Rattle.xn_surgery.specs.Corners.{after}
-use Rattle.xn_surgery.specs.Insertion.{IsInsertion}
 use Rattle.xn_map.specs.Changes.{Inserts}
 use Rattle.xn_map.specs.Listed.{ListedMap}
 use Rattle.xn_map.specs.declared.corners.Corner.TheVariants.{After}
@@ -26,7 +24,7 @@ use Rattle.xn_loose.proofs.IntoLoose.{loose_from_track}
 use Rattle.xn_loose.proofs.MeetOnce.{distinct_if_once}
 use Rattle.xn_loose.proofs.Within as within
 use Rattle.xn_insert.specs.Calls.{IsInserted}
-use Rattle.xn_insert.specs.Cuts.{AreCut, cut_darts}
+use Rattle.xn_insert.specs.Cuts.{AreCut}
 use Rattle.xn_insert.specs.ListedLoose.{IsLooseOf, ListedLoose, edges_in, has_dart, loose_of, walk_of}
 use Rattle.xn_insert.proofs.CutWalks.{has_dart-cut}
 use Rattle.xn_insert.proofs.Grown.{GrownTo, all, apart, cut, edges, is_graph, list, more_edges, u, v}

@@ -1,4 +1,4 @@
-use Rattle.std.proofs.Common.{inl, inr, subst, sym, ap, ◌∙◌, false, true, refl, arith}
+use Rattle.std.proofs.Common.{inl, inr, sym, ap, ◌∙◌, false, refl, arith}
 use Rattle.std.proofs.lemmas.Bool.{both_ways, cases_Bool}
 use Rattle.xn_model.specs.Lists.{has}
 use Rattle.xn_insert.specs.ListedLoose.{edges_in}

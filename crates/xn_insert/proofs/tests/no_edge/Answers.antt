@@ -1,4 +1,4 @@
-use Rattle.std.proofs.Common.{◌≡◌, ℕ, ◌+◌, false, List, [], refl, sym, ◌∙◌, ap, length, subst, rules, arith}
+use Rattle.std.proofs.Common.{◌≡◌, ℕ, ◌+◌, false, List, [], refl, ◌∙◌, ap, length, subst, rules, arith}
 use Rattle.std.specs.List.{IsDistinct}
 use Rattle.std.specs.Prelude.{nat_eq}
 use Rattle.std.proofs.lemmas.Bool.{both_ways}
@@ -6,7 +6,7 @@ use Rattle.xn_list.specs.Lists.{lists_of}
 use Rattle.xn_model.specs.Graph.{Graph}
 use Rattle.xn_model.specs.Lists.{at}
 use Rattle.xn_model.specs.Map.{IsFlat, MeetsEuler}
-use Rattle.xn_model.specs.Orders.{IsEdgeList, order_at}
+use Rattle.xn_model.specs.Orders.{order_at}
 use Rattle.xn_model.specs.Web.{web_of}
 use Rattle.xn_graph.specs.Limits.{graph_of}
 use Rattle.xn_map.specs.Listed.{IsListedMap, ListedMap}

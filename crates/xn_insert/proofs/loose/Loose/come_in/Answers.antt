@@ -1,4 +1,4 @@
-use Rattle.std.proofs.Common.{◌≡◌, ℕ, ◌+◌, ◌*◌, ◌/◌, ◌^◌, ◌<◌, ◌≤◌, List, [], ◌∷◌, ◌++◌, inl, length, replicate, refl, sym, ◌∙◌, ap, subst, rules, arith}
+use Rattle.std.proofs.Common.{◌≡◌, ℕ, ◌*◌, ◌^◌, ◌<◌, ◌≤◌, List, [], ◌∷◌, ◌++◌, inl, length, replicate, refl, sym, ◌∙◌, ap, subst, rules, arith}
 use Rattle.xn_model.specs.Lists.{at}
 use Rattle.xn_map.specs.Listed.{IsListedMap, ListedMap}
 use Rattle.xn_insert.specs.Calls.{IsInserted}
