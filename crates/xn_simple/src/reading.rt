@@ -47,7 +47,7 @@ impl Tangle {
     }
 
     // Along the walk of an edge the numbers of those that it crosses.
-    fn list_along(&self, alloc: Global, numbers: &[u32], e: u32) -> Result<Vec<u32>, AllocError>
+    pub fn list_along(&self, alloc: Global, numbers: &[u32], e: u32) -> Result<Vec<u32>, AllocError>
         requires tangle { (g : Graph) × IsUntangled g (lists_in self.now) × (length numbers.now ≡ length g.ends) }
         requires edge { has self.now.edges.items e ≡ true }
         ensures { IfOk result (λ list. list.items ≡ map (at numbers.now) (order_in (lists_in self.now) e)) }
@@ -62,7 +62,7 @@ impl Tangle {
     }
 
     // Appends the darts of a walk at its ends and at its crossings.
-    fn push_starts(&self, starts: &mut Vec<u32>, e: u32) -> Result<(), AllocError>
+    pub fn push_starts(&self, starts: &mut Vec<u32>, e: u32) -> Result<(), AllocError>
         requires tangle { (g : Graph) × IsUntangled g (lists_in self.now) }
         requires edge { has self.now.edges.items e ≡ true }
         ensures { OnOk result (starts.new.items ≡ starts.old.items ++ starts_in_walk (lists_in self.now) e) }
