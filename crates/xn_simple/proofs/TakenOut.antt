@@ -1,17 +1,15 @@
 -- An edge is taken out of a tangle: the others are a tangle as before.
-use Rattle.std.proofs.Common.{◌≡◌, ◌≢◌, ℕ, ◌+◌, ◌<◌, ◌≤◌, inl, inr, Bool, true, false, not, ◌&&◌, eqb, List, [], ◌∷◌, ◌++◌, length, set, take, get_or, refl, sym, ◌∙◌, ap, subst, arith}
-use Rattle.std.specs.List.{flat_map}
+use Rattle.std.proofs.Common.{◌≡◌, ◌≢◌, ℕ, ◌+◌, ◌<◌, ◌≤◌, inl, inr, Bool, true, false, not, ◌&&◌, eqb, List, [], ◌∷◌, ◌++◌, length, take, get_or, sym, ◌∙◌, ap, subst, arith}
 use Rattle.std.specs.Prelude.{filter}
-use Rattle.std.proofs.lemmas.Bool.{and_parts, both_ways, cases_Bool, cases_eq, cond-false, cond-true, eq-eqb, eqb-true, ne_eqb}
+use Rattle.std.proofs.lemmas.Bool.{and_parts, both_ways, cases_Bool, cases_eq, cond-false, cond-true, eq-eqb, ne_eqb}
 use Rattle.std.proofs.lemmas.List.{append-nil, get_or-set_other, get_or-set_same, length-set, take_more}
 use Rattle.std.proofs.lemmas.List.Elements.{All-filter, filter-append}
 use Rattle.std.proofs.lemmas.List.Kept.{IsStrictlyIncreasing-filter}
 use Rattle.xn_model.specs.Graph.{Graph, ends_at}
-use Rattle.xn_model.specs.Lists.{at, has, total}
+use Rattle.xn_model.specs.Lists.{has, total}
 use Rattle.xn_model.specs.Loose.{WalksOnly, times_walked}
 use Rattle.xn_model.specs.Map.{WalksTo}
 use Rattle.xn_model.proofs.Has.{has-filter}
-use Rattle.xn_insert.specs.ListedLoose.{walk_of}
 use Rattle.xn_track.specs.Track.{GoesOn, IsTrack, straight_on}
 use Rattle.xn_track.proofs.Tally.{times-flat_map}
 use Rattle.xn_simple.specs.LaidAgain.{all_but_edge, taken_out}

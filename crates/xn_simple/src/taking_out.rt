@@ -1,5 +1,5 @@
 // Loose drawings are made simple and stay loose drawings, with an edge less or with all of them.
-ghost use Rattle.std.specs.Prelude.{◌≡◌, ◌*◌, ◌<◌, ℕ, IfOk, length};
+ghost use Rattle.std.specs.Prelude.{◌≡◌, ◌*◌, ◌<◌, IfOk, length};
 ghost use Rattle.std.specs.List.{range_with_len};
 ghost use Rattle.xn_model.specs.Graph.{Graph};
 ghost use Rattle.xn_model.specs.Lists.{at};

@@ -1,4 +1,4 @@
-use Rattle.std.proofs.Common.{vec_items, refl, sym, ◌∙◌, ap, arith}
+use Rattle.std.proofs.Common.{vec_items, refl, ◌∙◌, ap}
 use Rattle.xn_simple.proofs.TakenOut.{but_more, but_same}
 use Rattle.xn_simple.proofs.taking_out.all_but.Goals.{then-x-e+in_ok-push, else-x-e}
 use Rattle.xn_simple.proofs.taking_out.all_but.Goals as goal
