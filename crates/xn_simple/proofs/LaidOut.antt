@@ -12,16 +12,15 @@ use Rattle.xn_model.specs.Web.{web_of}
 use Rattle.xn_model.proofs.Has.{has-first, has-later}
 use Rattle.xn_model.proofs.Ranges.{order_at_outside}
 use Rattle.xn_kinds.specs.declared.drawings.Drawing.{Drawing}
-use Rattle.xn_genus.specs.Part.{PassesOver}
 use Rattle.xn_map.specs.Listed.{ListedMap, map_of}
 use Rattle.xn_orders.proofs.Limits.{crossings_few}
 use Rattle.xn_track.specs.Tidying.{IsDrawingOfEdges}
 use Rattle.xn_insert.specs.Calls.{DrawsKept, IsStarted}
 use Rattle.xn_insert.specs.ListedLoose.{ListedLoose, edges_in, loose_of}
-use Rattle.xn_simple.specs.LaidAgain.{IsLaidAgain, IsLaidOf, IsReadOff, all_but_edge, starts_in, taken_out}
+use Rattle.xn_simple.specs.LaidAgain.{IsLaidAgain, IsLaidOf, all_but_edge, taken_out}
 use Rattle.xn_simple.specs.Tangle.{IsTangleOf, ListedTangle, named, walk_in}
 use Rattle.xn_simple.specs.Tidied.{IsTidied}
-use Rattle.xn_simple.specs.Untangling.{IsUntangled, KeepsMap, order_in}
+use Rattle.xn_simple.specs.Untangling.{IsReadBy, IsUntangled, KeepsMap, order_in}
 use Rattle.xn_simple.proofs.Begun.{named_few}
 use Rattle.xn_simple.proofs.DrawnBy.{tidy}
 use Rattle.xn_simple.proofs.ReadOff.{each_below, edge_below, edges_apart, few_apart}
@@ -48,16 +47,30 @@ module _ (g : Graph) (t : ListedTangle) (done : IsUntangled g t) where
   tidied : IsTidied g edges t.map.web (at t.map.next) (named t) (walk_in t)
   tidied = tidy g t done
 
-  module _ (d : Drawing) (read : IsReadOff t d) where
-    pub draws : IsDrawingOfEdges g edges ord (at d.next)
+  -- each edge has its own number
+  own_numbers : (numbers : List ℕ) → numbers ≡ range_with_len 0 (length g.ends) → IsOrders g.ends edges ord → map (λ e. map (at numbers) (ord e)) edges ≡ map ord edges
+  own_numbers numbers are orders =
+      ap (λ (row : ℕ → List ℕ). map row edges) (λ i e. same e i)
+    where
+      own : (f : ℕ) → f < length g.ends → at numbers f ≡ f
+      own f low = let z : 0 + f ≡ f = omega arith in ap (λ l. at l f) are ∙ get_or-range_with_len 0 (length g.ends) f 0 low ∙ z
+
+      same : (e : ℕ) → map (at numbers) (ord e) ≡ ord e
+      same e = map-same (at numbers) (λ x. x) (ord e) (λ f f_in. own f (edge_below g t done f (orders.within f e (orders.both_ways e f f_in)))) ∙ map-id (ord e)
+
+  module _ (numbers : List ℕ) (are : numbers ≡ range_with_len 0 (length g.ends)) (d : Drawing) (read : IsReadBy t numbers d) where
+    draws : IsDrawingOfEdges g edges ord (at d.next)
     draws = tidied.drawing (at d.next) read.over
+
+    rows : d.orders ≡ map ord edges
+    rows = read.rows ∙ own_numbers numbers are draws.orders
 
     -- the rows are the orders
     outside : (e : ℕ) → has edges e ≡ false → ord e ≡ []
     outside e out = cond-false _ _ _ out
 
     row_is : (e : ℕ) → order_at edges d.orders e ≡ ord e
-    row_is e = ap (λ ls. order_at edges ls e) read.rows ∙ elim (cases_Bool (has edges e)) [
+    row_is e = ap (λ ls. order_at edges ls e) rows ∙ elim (cases_Bool (has edges e)) [
       | inl there ↦ row_of ord edges e there
       | inr out ↦ order_at_outside edges (map ord edges) e out ∙ sym (outside e out)
     ]
@@ -66,7 +79,7 @@ module _ (g : Graph) (t : ListedTangle) (done : IsUntangled g t) where
     rows_are = λ i e. row_is e i
 
     pub rows_fit : length d.orders ≡ length edges
-    rows_fit = ap length read.rows ∙ length-map edges ord
+    rows_fit = ap length rows ∙ length-map edges ord
 
     pub own_orders : IsOrders g.ends edges (order_at edges d.orders)
     own_orders = subst (IsOrders g.ends edges) (sym rows_are) draws.orders
@@ -101,25 +114,6 @@ module _ (g : Graph) (t : ListedTangle) (done : IsUntangled g t) where
           no_more = omega (arith, nodes, few, most);
           few = omega (arith, nodes, pairs);
         }
-
-  -- each edge has its own number
-  pub own_numbers : (numbers : List ℕ) → numbers ≡ range_with_len 0 (length g.ends) → IsOrders g.ends edges ord → map (λ e. map (at numbers) (ord e)) edges ≡ map ord edges
-  own_numbers numbers are orders =
-      ap (λ (row : ℕ → List ℕ). map row edges) (λ i e. same e i)
-    where
-      own : (f : ℕ) → f < length g.ends → at numbers f ≡ f
-      own f low = let z : 0 + f ≡ f = omega arith in ap (λ l. at l f) are ∙ get_or-range_with_len 0 (length g.ends) f 0 low ∙ z
-
-      same : (e : ℕ) → map (at numbers) (ord e) ≡ ord e
-      same e = map-same (at numbers) (λ x. x) (ord e) (λ f f_in. own f (edge_below g t done f (orders.within f e (orders.both_ways e f f_in)))) ∙ map-id (ord e)
-
-  pub read_off : (numbers : List ℕ) → numbers ≡ range_with_len 0 (length g.ends) → (d : Drawing) → d.orders ≡ map (λ e. map (at numbers) (ord e)) edges →
-      length d.next ≡ length (starts_in t) → PassesOver (length (starts_in t)) (at (starts_in t)) (at t.map.next) (at d.next) → IsReadOff t d
-  read_off numbers are d rows size over = record {
-    rows = rows ∙ own_numbers numbers are (tidied.drawing (at d.next) over).orders;
-    size = size;
-    over = over;
-  }
 
 -- ---- of a loose drawing
 

@@ -1,13 +1,8 @@
 -- Loose drawings that are made simple, and stay loose drawings.
-use Rattle.std.specs.Prelude.{◌≡◌, ℕ, ◌+◌, ◌≤◌, ◌==◌, not, List, [], filter, length, map, set}
+use Rattle.std.specs.Prelude.{◌≡◌, ℕ, ◌+◌, ◌≤◌, ◌==◌, not, List, [], filter, set}
 use Rattle.xn_model.specs.Graph.{Graph}
-use Rattle.xn_model.specs.Lists.{at}
-use Rattle.xn_genus.specs.Part.{PassesOver}
 use Rattle.xn_insert.specs.ListedLoose.{IsLooseOf, ListedLoose, edges_in}
-use Rattle.xn_kinds.specs.declared.drawings.Drawing.{Drawing}
-use Rattle.xn_simple.specs.Tangle.{ListedTangle, named, walk_in}
-use Rattle.xn_simple.specs.Tidied.{starts_by_walks}
-use Rattle.xn_simple.specs.Untangling.{order_in}
+use Rattle.xn_simple.specs.Tangle.{ListedTangle}
 
 -- the edges but e
 abbrev pub all_but_edge : ℕ → List ℕ → List ℕ
@@ -25,16 +20,6 @@ pub record IsLaidAgain (g : Graph) (edges : List ℕ) (old new : ListedLoose) : 
 -- e has no walk, and isn't in
 abbrev pub taken_out : ListedTangle → ℕ → ListedTangle
 taken_out t e = record { map = t.map; edges = all_but_edge e t.edges; walks = set t.walks e []; four = t.four; owners = t.owners; places = t.places }
-
--- the darts of the walks at their ends and crossings
-abbrev pub starts_in : ListedTangle → List ℕ
-starts_in t = starts_by_walks t.edges t.map.web.ends (named t) (walk_in t)
-
--- the lists of the edges that are in, under their own numbers, and the turns
-pub record IsReadOff (t : ListedTangle) (d : Drawing) : Type 0 where
-  pub rows : d.orders ≡ map (order_in t) t.edges
-  pub size : length d.next ≡ length (starts_in t)
-  pub over : PassesOver (length (starts_in t)) (at (starts_in t)) (at t.map.next) (at d.next)
 
 -- a loose drawing of the same edges, simple
 pub record IsLaidOf (g : Graph) (t : ListedTangle) (l : ListedLoose) : Type 0 where

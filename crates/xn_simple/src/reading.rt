@@ -3,7 +3,7 @@ ghost use Rattle.std.specs.Prelude.{◌≡◌, ◌++◌, ◌<◌, ◌≤◌, ℕ
 ghost use Rattle.xn_model.specs.Graph.{Graph};
 ghost use Rattle.xn_model.specs.Lists.{at, has};
 ghost use Rattle.xn_simple.specs.Tangle.{lists_in, node_in, walk_in};
-ghost use Rattle.xn_simple.specs.Untangling.{AreNumbers, IsDrawnBy, IsUntangled, crossed_at, order_in, starts_in_walk};
+ghost use Rattle.xn_simple.specs.Untangling.{AreNumbers, IsDrawnBy, IsReadBy, IsUntangled, crossed_at, order_in, starts_in_walk};
 
 use crate::tangle::Tangle;
 use crate::turning::turns_along;
@@ -18,10 +18,19 @@ impl Tangle {
         ensures { (g : Graph) → IsUntangled g (lists_in self.now) → IfOk result (IsDrawnBy g (lists_in self.now)) }
     {
         let numbers = numbers_of(alloc, edges, &self.edges)?;
+        let drawing = self.read(alloc, &numbers)?;
+        Ok(drawing)
+    }
+
+    /// The lists of the edges that are in, under these numbers, and the turns.
+    pub fn read(&self, alloc: Global, numbers: &[u32]) -> Result<Drawing, AllocError>
+        requires { (g : Graph) × IsUntangled g (lists_in self.now) × (length numbers.now ≡ length g.ends) }
+        ensures { IfOk result (IsReadBy (lists_in self.now) numbers.now) }
+    {
         let mut orders = Orders::new(Vec::with_capacity(alloc, self.edges.len())?);
         let mut starts = Vec::with_capacity(alloc, 2 * self.map.web().segments() as usize)?;
         for e in &self.edges {
-            orders.push(self.list_along(alloc, &numbers, *e)?)?;
+            orders.push(self.list_along(alloc, numbers, *e)?)?;
             self.push_starts(&mut starts, *e)?;
         }
         let next = turns_along(alloc, &self.map, &starts)?;
@@ -47,7 +56,7 @@ impl Tangle {
     }
 
     // Along the walk of an edge the numbers of those that it crosses.
-    pub fn list_along(&self, alloc: Global, numbers: &[u32], e: u32) -> Result<Vec<u32>, AllocError>
+    fn list_along(&self, alloc: Global, numbers: &[u32], e: u32) -> Result<Vec<u32>, AllocError>
         requires tangle { (g : Graph) × IsUntangled g (lists_in self.now) × (length numbers.now ≡ length g.ends) }
         requires edge { has self.now.edges.items e ≡ true }
         ensures { IfOk result (λ list. list.items ≡ map (at numbers.now) (order_in (lists_in self.now) e)) }
@@ -62,7 +71,7 @@ impl Tangle {
     }
 
     // Appends the darts of a walk at its ends and at its crossings.
-    pub fn push_starts(&self, starts: &mut Vec<u32>, e: u32) -> Result<(), AllocError>
+    fn push_starts(&self, starts: &mut Vec<u32>, e: u32) -> Result<(), AllocError>
         requires tangle { (g : Graph) × IsUntangled g (lists_in self.now) }
         requires edge { has self.now.edges.items e ≡ true }
         ensures { OnOk result (starts.new.items ≡ starts.old.items ++ starts_in_walk (lists_in self.now) e) }

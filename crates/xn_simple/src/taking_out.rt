@@ -6,18 +6,15 @@ ghost use Rattle.xn_model.specs.Lists.{at};
 ghost use Rattle.xn_model.specs.Map.{IsMap};
 ghost use Rattle.xn_map.specs.Listed.{map_of};
 ghost use Rattle.xn_insert.specs.ListedLoose.{IsLooseOf, edges_in};
-ghost use Rattle.xn_simple.specs.LaidAgain.{IsLaidAgain, IsLaidOf, IsReadOff, all_but_edge, taken_out};
+ghost use Rattle.xn_simple.specs.LaidAgain.{IsLaidAgain, IsLaidOf, all_but_edge, taken_out};
 ghost use Rattle.xn_simple.specs.Tangle.{IsTangle, lists_in};
 ghost use Rattle.xn_simple.specs.Untangling.{IsUntangled};
 
 use crate::simplifying::tangle_of;
 use crate::tangle::Tangle;
-use crate::turning::turns_along;
 use std::alloc::{AllocError, Global};
 use xn_graph::{Graph, Web};
 use xn_insert::Loose;
-use xn_kinds::{Drawing, Orders};
-use xn_list::Sequence;
 use xn_map::{Map, MapErr};
 use xn_orders::planarise;
 
@@ -75,30 +72,12 @@ impl Tangle {
         ensures { IfOk result (IsLaidOf graph.now (lists_in self.now)) }
     {
         let edges = self.edges.as_slice();
-        let drawing = self.read_off(alloc, graph.edges())?;
+        let numbers = numbers_below(alloc, graph.edges())?;
+        let drawing = self.read(alloc, &numbers)?;
         let web = planarise(alloc, graph, edges, &drawing.orders)?;
         let map = map_turned(alloc, web, drawing.next.as_slice())?;
         let loose = Loose::start(alloc, graph, edges, &drawing.orders, map)?;
         Ok(loose)
-    }
-
-    // The lists of the edges, under their own numbers, and the turns.
-    fn read_off(&self, alloc: Global, edges: u32) -> Result<Drawing, AllocError>
-        requires { (g : Graph) × IsUntangled g (lists_in self.now) × (length g.ends ≡ edges) }
-        ensures { IfOk result (IsReadOff (lists_in self.now)) }
-    {
-        let numbers = numbers_below(alloc, edges)?;
-        let mut orders = Orders::new(Vec::with_capacity(alloc, self.edges.len())?);
-        let mut starts = Vec::with_capacity(alloc, 2 * self.map.web().segments() as usize)?;
-        for e in &self.edges {
-            orders.push(self.list_along(alloc, &numbers, *e)?)?;
-            self.push_starts(&mut starts, *e)?;
-        }
-        let next = turns_along(alloc, &self.map, &starts)?;
-        Ok(Drawing {
-            orders,
-            next: Sequence::new(next),
-        })
     }
 }
 
