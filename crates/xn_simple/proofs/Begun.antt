@@ -1,7 +1,6 @@
 -- The tangle of a loose drawing, and how many nodes of a tangle are named.
-use Rattle.std.proofs.Common.{◌≡◌, ◌≢◌, ℕ, zero, suc, ◌+◌, ◌-◌, ◌*◌, ◌/◌, ◌<◌, ◌≤◌, ◌⊎◌, inl, inr, Bool, true, false, ◌&&◌, eqb, List, [], ◌∷◌, length, refl, sym, ◌∙◌, ap, subst, arith}
+use Rattle.std.proofs.Common.{◌≡◌, ℕ, zero, suc, ◌+◌, ◌-◌, ◌*◌, ◌<◌, ◌≤◌, ◌⊎◌, inl, inr, Bool, true, false, eqb, List, [], ◌∷◌, length, refl, ◌∙◌, ap, subst, arith}
 use Rattle.std.specs.List.{range_with_len}
-use Rattle.std.specs.Prelude.{filter}
 use Rattle.std.proofs.lemmas.Bool.{and_from, both_ways, cases_Bool, cases_lt, eqb-true}
 use Rattle.xn_model.specs.Graph.{Graph}
 use Rattle.xn_model.specs.Lists.{at, has, one_if}
@@ -10,14 +9,14 @@ use Rattle.xn_model.specs.Map.{tail_of}
 use Rattle.xn_model.specs.Permutation.{count_below}
 use Rattle.xn_model.proofs.Has.{has-filter, has-range}
 use Rattle.xn_model.proofs.Tests.{same_tests}
-use Rattle.xn_map.specs.Listed.{IsListedMap, ListedMap}
+use Rattle.xn_map.specs.Listed.{IsListedMap}
 use Rattle.xn_map.specs.Marks.{is_marked}
 use Rattle.xn_track.specs.Track.{IsTrack}
 use Rattle.xn_track.proofs.Loose.{crossing_by_count, loose_drawings_are_tracks, none_below}
 use Rattle.xn_track.proofs.Passes.{walk_in as dart_of_walk}
 use Rattle.xn_insert.specs.ListedLoose.{IsLooseOf, ListedLoose, edges_in, has_dart, walk_of}
 use Rattle.xn_simple.specs.Loosened.{ComesFrom}
-use Rattle.xn_simple.specs.Tangle.{AreFurther, AreNotesOf, HoldNotes, IsTangle, ListedTangle, WalksAreApart, named}
+use Rattle.xn_simple.specs.Tangle.{AreFurther, AreNotesOf, IsTangle, ListedTangle, WalksAreApart, named}
 use Rattle.xn_simple.specs.Untangling.{named_count}
 use Rattle.xn_simple.proofs.Tangled.{once_apart, walked_in}
 

@@ -1,5 +1,5 @@
 -- A step as it is taken in memory: nodes are unmarked first, and then the walks are put.
-use Rattle.std.proofs.Common.{◌≡◌, ◌≢◌, ℕ, suc, ◌+◌, ◌-◌, ◌*◌, ◌/◌, ◌<◌, ◌≤◌, inl, inr, Bool, true, false, not, List, [], ◌∷◌, ◌++◌, length, get_or, take, drop, refl, sym, ◌∙◌, ap, ap₂, subst, arith, length-append}
+use Rattle.std.proofs.Common.{◌≡◌, ◌≢◌, ℕ, suc, ◌+◌, ◌-◌, ◌*◌, ◌/◌, ◌<◌, ◌≤◌, Bool, true, false, not, List, [], ◌∷◌, ◌++◌, length, get_or, take, drop, refl, sym, ◌∙◌, ap, ap₂, subst, arith, length-append}
 use Rattle.std.proofs.lemmas.Bool.{and_from, ne_eqb}
 use Rattle.std.proofs.lemmas.List.{drop_all, drop_more, get_or_read, length-drop, length-set, length-take-le, take_rest}
 use Rattle.xn_model.specs.Graph.{Graph}
@@ -15,7 +15,7 @@ use Rattle.xn_simple.specs.declared.finding.Step.TheVariants.{Beginnings}
 use Rattle.xn_simple.specs.declared.tangle.Pass.{Pass}
 use Rattle.xn_simple.proofs.Taken.{Unmarks, leaves_one, leaves_two, list_in, mark_in, named_unset, one_apart, one_low, own_apart, own_low, two_apart, two_low, unmarks, unmarks_again}
 use Rattle.xn_simple.proofs.Tangled.{dart_in, edge_in}
-use Rattle.xn_simple.proofs.Turned.{beginnings_law, closed_law, length-turned, middles_law, pass_turned, turned_order}
+use Rattle.xn_simple.proofs.Turned.{beginnings_law, closed_law, middles_law, pass_turned, turned_order}
 
 -- ---- lists
 

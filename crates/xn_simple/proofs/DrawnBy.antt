@@ -1,10 +1,9 @@
 -- The lists and the turns that are read off walks are a drawing of the edges that are in.
-use Rattle.std.proofs.Common.{◌≡◌, ℕ, zero, suc, ◌+◌, ◌*◌, ◌<◌, ◌≤◌, inl, inr, true, false, List, [], ◌∷◌, ◌++◌, length, get_or, map, refl, sym, ◌∙◌, ap, ap₂, subst, arith, length-append}
-use Rattle.std.specs.List.{flat_map, range_with_len}
+use Rattle.std.proofs.Common.{◌≡◌, ℕ, zero, suc, ◌+◌, ◌*◌, ◌<◌, ◌≤◌, inl, inr, true, List, [], ◌∷◌, length, get_or, map, refl, sym, ◌∙◌, ap, ap₂, subst, arith, length-append}
+use Rattle.std.specs.List.{flat_map}
 use Rattle.std.proofs.lemmas.Bool.{cases_lt, cond-true, cond-false, le-ltb, lt-ltb}
-use Rattle.std.proofs.lemmas.List.{get_or_default, length-map}
+use Rattle.std.proofs.lemmas.List.{length-map}
 use Rattle.std.proofs.lemmas.List.FromFn.{get_or-range_with_len, length-range_with_len}
-use Rattle.std.proofs.Math.ListN.{get_or-map}
 use Rattle.xn_model.specs.Drawing.{IsDrawing, IsListedDrawing, drawn_web, order_of}
 use Rattle.xn_model.specs.Graph.{Graph, edges_of, ends_at}
 use Rattle.xn_model.specs.Lists.{at, has, position_in, total}
@@ -22,7 +21,7 @@ use Rattle.xn_loose.specs.Renaming.{renumbered, subgraph_of}
 use Rattle.xn_loose.proofs.Renamed.{drawings_of_edges_are_drawings}
 use Rattle.xn_simple.specs.Tangle.{ListedTangle, named, walk_in}
 use Rattle.xn_simple.specs.Tidied.{IsTidied, starts_by_walks}
-use Rattle.xn_simple.specs.Untangling.{AreNumbers, IsDrawnBy, IsUntangled, named_count, order_in, starts_in_walk}
+use Rattle.xn_simple.specs.Untangling.{AreNumbers, IsDrawnBy, IsUntangled, named_count, order_in}
 use Rattle.xn_simple.proofs.Read.{meet_simply}
 use Rattle.xn_simple.proofs.Tidied.{loosened_walks_are_drawings}
 

@@ -1,12 +1,12 @@
 -- Steps are found along a walk, or it meets all others as it may.
-use Rattle.std.proofs.Common.{◌≡◌, ◌≢◌, ℕ, zero, suc, ◌+◌, ◌<◌, ◌≤◌, ◌⊎◌, inl, inr, Bool, true, false, Option, Some, None, List, length, max, min, set, refl, sym, ◌∙◌, ap, subst, arith}
+use Rattle.std.proofs.Common.{◌≡◌, ◌≢◌, ℕ, suc, ◌<◌, ◌≤◌, inl, inr, Bool, false, Option, Some, None, List, length, max, min, set, refl, sym, ◌∙◌, ap, subst, arith}
 use Rattle.std.proofs.lemmas.Bool.{both_ways, cases_eq, cases_lt}
 use Rattle.std.proofs.lemmas.List.{get_or-set_other, get_or-set_same, length-set}
 use Rattle.xn_model.specs.Graph.{Graph, Independent}
 use Rattle.xn_model.specs.Lists.{at}
 use Rattle.xn_track.specs.Steps.{end_from}
 use Rattle.xn_simple.specs.Tangle.{IsOther, ListedTangle, MeetAt, named, node_in, pass_of, walk_in}
-use Rattle.xn_simple.specs.Untangling.{GoesOnWith, HasMetBefore, IsStep, MeetTwice, MeetWell, MeetsSoFar}
+use Rattle.xn_simple.specs.Untangling.{GoesOnWith, HasMetBefore, IsStep, MeetWell, MeetsSoFar}
 use Rattle.xn_simple.specs.declared.finding.Step.{Step}
 use Rattle.xn_simple.specs.declared.finding.Step.TheVariants.{Beginnings, Closed, Middles}
 use Rattle.xn_simple.specs.declared.tangle.Pass.{Pass}

@@ -1,38 +1,22 @@
 -- Walks that meet simply at the nodes that are still named do so once the others have come apart, and give the same orders.
-use Rattle.std.proofs.Common.{◌≡◌, ◌≢◌, ℕ, zero, suc, ◌+◌, ◌*◌, ◌/◌, ◌<◌, ◌≤◌, ◌⊎◌, inl, inr, Bool, true, false, not, ◌&&◌, eqb, List, [], ◌∷◌, ◌++◌, length, map, refl, sym, ◌∙◌, ap, ap₂, subst, arith, length-append}
-use Rattle.std.specs.List.{IsDistinct, flat_map}
-use Rattle.std.specs.Prelude.{filter, nat_eq}
-use Rattle.std.proofs.lemmas.Bool.{and_from, and_parts, both_ways, cases_Bool, cases_eq, cases_order, cond-true, cond-false}
-use Rattle.std.proofs.lemmas.List.{length-map, map-append}
-use Rattle.xn_model.specs.Graph.{Graph, IsGraph, ends_at}
+use Rattle.std.proofs.Common.{◌≡◌, ◌≢◌, ℕ, suc, ◌+◌, ◌*◌, ◌<◌, ◌≤◌, inl, inr, Bool, true, not, ◌&&◌, eqb, List, [], ◌∷◌, length, refl, sym, ◌∙◌, ap, subst, arith}
+use Rattle.std.proofs.lemmas.Bool.{and_from, and_parts, cases_Bool, cases_eq, cond-true, cond-false}
+use Rattle.std.proofs.lemmas.List.{length-map}
+use Rattle.xn_model.specs.Graph.{Graph, IsGraph}
 use Rattle.xn_model.specs.Lists.{at, has}
-use Rattle.xn_model.specs.Map.{IsMap, reverse_of, tail_of}
-use Rattle.xn_model.specs.Orders.{crossings_of}
-use Rattle.xn_model.specs.Permutation.{count_below, iterate}
-use Rattle.xn_model.specs.Web.{segments_of, web_of}
-use Rattle.xn_model.proofs.Darts.{reverse_below}
-use Rattle.xn_genus.specs.Part.{ComesFirst, PassesOver, dart_along, ends_along}
-use Rattle.xn_genus.proofs.Part.{passes_over}
-use Rattle.xn_ring.proofs.Counting.{count_injects, same_tests}
-use Rattle.xn_ring.proofs.Orbits.{iterate_below, source_of}
-use Rattle.xn_fewer.proofs.Has.{has-first, has-later}
-use Rattle.xn_orders.proofs.Limits.{length-segments_of}
-use Rattle.xn_track.specs.Cutting.{TurnsAsRuns, run_dart}
-use Rattle.xn_track.specs.Tidying.{IsDrawingOfEdges, is_met, is_other, order_along, other_at}
+use Rattle.xn_model.specs.Map.{IsMap, tail_of}
+use Rattle.xn_ring.proofs.Counting.{same_tests}
+use Rattle.xn_track.specs.Tidying.{is_met, is_other, order_along, other_at}
 use Rattle.xn_track.specs.Track.{IsTrack, MeetSimply, passed}
-use Rattle.xn_track.proofs.Blocks.{at_place, blocks_apart, found_at, place_in}
-use Rattle.xn_track.proofs.OrdersAlong.{met_from, other_meets}
-use Rattle.xn_track.proofs.Passes.{Gap, begin, distinct_edges, ends_below, is_part, part_size, passed_at, size_is, some_darts, turn, two_gaps, along_even, along_odd, walk_first, walk_in, walk_last, walk_seam}
+use Rattle.xn_track.proofs.Blocks.{blocks_apart}
+use Rattle.xn_track.proofs.OrdersAlong.{other_meets}
+use Rattle.xn_track.proofs.Passes.{Gap, begin, passed_at, size_is, two_gaps, walk_in}
 use Rattle.xn_track.proofs.Places.{has-at, place_of}
-use Rattle.xn_track.proofs.Runs.{runs_from}
-use Rattle.xn_track.proofs.Tidy.{cut, drawing, tidied}
-use Rattle.xn_loose.proofs.InWeb.{at-map}
 use Rattle.xn_simple.specs.Loosened.{ComesFrom, IsLoosened}
-use Rattle.xn_simple.specs.Tidied.{IsTidied, LoosenedWalksAreDrawings, MeetSimplyAt, is_crossed, order_by_walks, starts_by_walks, starts_past, walk_starts}
-use Rattle.xn_simple.proofs.Agreeing.{drawing-agrees}
+use Rattle.xn_simple.specs.Tidied.{MeetSimplyAt, is_crossed, order_by_walks}
 use Rattle.xn_simple.proofs.Apart.{named, named_from}
-use Rattle.xn_simple.proofs.Lists.{darts_of_runs, darts_of_runs-append, distinct_by_places, run_at}
-use Rattle.xn_simple.proofs.Picked.{all_runs_below, any-same, each_past, first_passing-same, picked-same, runs_below, runs_past, starts_past-length}
+use Rattle.xn_simple.proofs.Lists.{distinct_by_places}
+use Rattle.xn_simple.proofs.Picked.{any-same, first_passing-same, picked-same}
 
 module _ (g : Graph) (edges : List ℕ) (web : Graph) (next : ℕ → ℕ) (four : ℕ → Bool) (walks : ℕ → List ℕ) (is_graph : IsGraph g)
     (nodes_in : g.nodes ≤ web.nodes) (old_map : IsMap web.nodes web.ends next) (state : IsLoosened g edges web next four walks)

@@ -1,5 +1,5 @@
 -- A walk is put in the place of another one: the walks, the notes and the marks then.
-use Rattle.std.proofs.Common.{◌≡◌, ◌≢◌, ℕ, zero, suc, ◌+◌, ◌*◌, ◌/◌, ◌<◌, ◌≤◌, inl, inr, Bool, true, false, not, ◌&&◌, eqb, List, [], length, set, refl, sym, ◌∙◌, ap, subst, arith}
+use Rattle.std.proofs.Common.{◌≡◌, ◌≢◌, ℕ, suc, ◌+◌, ◌/◌, ◌<◌, ◌≤◌, inl, inr, Bool, true, false, not, ◌&&◌, eqb, List, [], length, set, refl, sym, ◌∙◌, ap, subst, arith}
 use Rattle.std.proofs.lemmas.Bool.{and_parts, both_ways, cases_eq, cond-true, cond-false, eq-eqb, ne_eqb}
 use Rattle.std.proofs.lemmas.List.{get_or-set_other, get_or-set_same, length-set}
 use Rattle.xn_model.specs.Graph.{Graph}
@@ -12,8 +12,7 @@ use Rattle.xn_map.specs.Marks.{is_marked}
 use Rattle.xn_track.specs.Steps.{with_walk}
 use Rattle.xn_insert.specs.ListedLoose.{walk_of}
 use Rattle.xn_simple.specs.Loosened.{IsLoosened, all_but}
-use Rattle.xn_simple.specs.Tangle.{HoldNotes, IsNoted, IsWalkPut, IsTangle, ListedTangle, named, unmarked, walk_in}
-use Rattle.xn_simple.specs.Untangling.{KeepsMap, Leaves, named_count}
+use Rattle.xn_simple.specs.Tangle.{HoldNotes, IsNoted, IsWalkPut, IsTangle, ListedTangle, named, walk_in}
 
 -- ---- as functions
 

@@ -1,8 +1,7 @@
 -- What is read off walks that no step is left for: the edges that they cross, and the darts at their ends and crossings.
-use Rattle.std.proofs.Common.{◌≡◌, ◌≢◌, ℕ, zero, suc, ◌+◌, ◌*◌, ◌<◌, ◌≤◌, inl, inr, Bool, true, false, not, ◌&&◌, cond, eqb, Option, Some, None, List, [], ◌∷◌, ◌++◌, length, get_or, drop, map, refl, sym, ◌∙◌, ap, ap₂, subst, arith, append_assoc, drop-cons, drop_of_length-le}
+use Rattle.std.proofs.Common.{◌≡◌, ◌≢◌, ℕ, suc, ◌+◌, ◌<◌, ◌≤◌, inl, inr, Bool, true, false, not, ◌&&◌, eqb, Option, Some, None, List, [], ◌∷◌, ◌++◌, length, get_or, drop, map, refl, sym, ◌∙◌, ap, subst, arith, append_assoc, drop-cons, drop_of_length-le}
 use Rattle.std.specs.Prelude.{filter}
-use Rattle.std.specs.List.{list_any}
-use Rattle.std.proofs.lemmas.Bool.{and_from, and_parts, both_ways, cases_Bool, cases_eq, cond-true, cond-false, eqb-false, ne_eqb, not-true}
+use Rattle.std.proofs.lemmas.Bool.{and_from, and_parts, cases_Bool, cond-true, cond-false, eqb-false, ne_eqb, not-true}
 use Rattle.xn_model.specs.Graph.{Graph}
 use Rattle.xn_model.specs.Lists.{at, has}
 use Rattle.xn_model.specs.Map.{reverse_of, tail_of}
@@ -12,8 +11,8 @@ use Rattle.xn_track.specs.Track.{passed}
 use Rattle.xn_track.proofs.OrdersAlong.{first_passing_is}
 use Rattle.xn_track.proofs.Passes.{passed-length, passed_at}
 use Rattle.xn_simple.specs.Tangle.{IsOther, ListedTangle, MeetAt, named, node_in, pass_of, walk_in}
-use Rattle.xn_simple.specs.Tidied.{MeetSimplyAt, is_crossed, order_by_walks, starts_past, walk_starts}
-use Rattle.xn_simple.specs.Untangling.{IsUntangled, crossed_at, order_in, starts_in_walk}
+use Rattle.xn_simple.specs.Tidied.{MeetSimplyAt, is_crossed, starts_past, walk_starts}
+use Rattle.xn_simple.specs.Untangling.{IsUntangled, crossed_at}
 use Rattle.xn_simple.specs.declared.tangle.Pass.{Pass}
 use Rattle.xn_simple.proofs.Tangled.{edge_in}
 

@@ -1,5 +1,5 @@
 -- What is read off walks, step by step: the numbers of edges, the lists along the walks, and the darts at which they start.
-use Rattle.std.proofs.Common.{◌≡◌, ◌≢◌, ℕ, zero, suc, ◌+◌, ◌-◌, ◌*◌, ◌^◌, ◌<◌, ◌≤◌, inl, inr, Bool, true, false, Option, Some, None, List, [], ◌∷◌, ◌++◌, length, get_or, drop, map, set, take, is_some, slice_index_or, refl, sym, ◌∙◌, ap, ap₂, subst, arith, append_assoc, if◌then◌else◌}
+use Rattle.std.proofs.Common.{◌≡◌, ℕ, suc, ◌+◌, ◌-◌, ◌*◌, ◌^◌, ◌<◌, ◌≤◌, inl, inr, Bool, true, false, Option, Some, None, List, [], ◌∷◌, ◌++◌, length, get_or, drop, map, set, take, is_some, slice_index_or, refl, sym, ◌∙◌, ap, ap₂, arith, append_assoc, if◌then◌else◌}
 use Rattle.std.specs.List.{flat_map, list_any}
 use Rattle.std.proofs.lemmas.Bool.{and_parts, cases_eq, cases_order, cond-true}
 use Rattle.std.proofs.lemmas.List.{append-nil, drop_all, get_or_read, get_or-set_other, get_or-set_same, map_more, take_all}
@@ -7,14 +7,14 @@ use Rattle.std.proofs.lemmas.List.Kept.{AllPairs-from_increasing}
 use Rattle.xn_model.specs.Graph.{Graph}
 use Rattle.xn_model.specs.Lists.{at, has, position_in}
 use Rattle.xn_model.specs.Map.{reverse_of, tail_of}
-use Rattle.xn_model.proofs.Has.{has-at, place_of}
+use Rattle.xn_model.proofs.Has.{has-at}
 use Rattle.xn_ring.proofs.Counting.{count-all, count_injects}
 use Rattle.xn_orders.proofs.Listed.{flat_map-take_more}
 use Rattle.xn_track.specs.Tidying.{is_other, other_at}
 use Rattle.xn_track.proofs.OrdersAlong.{first_passing_is}
 use Rattle.xn_track.proofs.Passes.{edge_in as edge_low, some_darts}
 use Rattle.xn_loose.proofs.InWeb.{at_position}
-use Rattle.xn_simple.specs.Tangle.{IsTangle, ListedTangle, named, node_in, walk_in}
+use Rattle.xn_simple.specs.Tangle.{ListedTangle, named, node_in, walk_in}
 use Rattle.xn_simple.specs.Tidied.{is_crossed, starts_by_walks, starts_past}
 use Rattle.xn_simple.specs.Turning.{AreDartsOnce}
 use Rattle.xn_simple.specs.Untangling.{AreNumbers, IsUntangled, crossed_at, order_in, starts_in_walk}

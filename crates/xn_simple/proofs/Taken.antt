@@ -1,5 +1,5 @@
 -- A step is taken: nodes are unmarked, and the walks of one edge or two are put.
-use Rattle.std.proofs.Common.{◌≡◌, ◌≢◌, ℕ, zero, suc, ◌+◌, ◌*◌, ◌/◌, ◌<◌, ◌≤◌, inl, inr, Bool, true, false, List, length, set, refl, sym, ◌∙◌, ap, subst, arith}
+use Rattle.std.proofs.Common.{◌≡◌, ◌≢◌, ℕ, ◌*◌, ◌/◌, ◌<◌, inl, inr, Bool, true, false, List, length, refl, sym, ◌∙◌, ap, subst, arith}
 use Rattle.std.proofs.lemmas.Bool.{cases_eq, cond-true, cond-false, eq-eqb, ne_eqb}
 use Rattle.std.proofs.lemmas.List.{length-set}
 use Rattle.xn_model.specs.Graph.{Graph}
@@ -14,7 +14,7 @@ use Rattle.xn_simple.specs.Loosened.{IsLoosened, all_but}
 use Rattle.xn_simple.specs.Tangle.{HoldNotes, IsWalkPut, IsTangle, ListedTangle, named, unmarked, walk_in}
 use Rattle.xn_simple.specs.Untangling.{Leaves, named_count}
 use Rattle.xn_simple.proofs.Placed.{marks-unset, notes_put, one_less, only_put, put_others, still_named, tangle_now, walks-put}
-use Rattle.xn_simple.proofs.Tangled.{edge_in, once_apart}
+use Rattle.xn_simple.proofs.Tangled.{once_apart}
 
 -- ---- nodes are unmarked
 

@@ -1,19 +1,19 @@
 -- What holds of walks over a map while they are untangled: which passes a named node has.
-use Rattle.std.proofs.Common.{◌≡◌, ◌≢◌, ℕ, zero, suc, ◌+◌, ◌*◌, ◌/◌, ◌<◌, ◌≤◌, ◌⊎◌, inl, inr, Bool, true, false, Option, Some, None, List, length, refl, sym, ◌∙◌, ap, subst, arith}
+use Rattle.std.proofs.Common.{◌≡◌, ◌≢◌, ℕ, suc, ◌+◌, ◌*◌, ◌/◌, ◌<◌, ◌≤◌, ◌⊎◌, inl, inr, Bool, true, Option, Some, None, List, length, refl, sym, ◌∙◌, ap, subst, arith}
 use Rattle.std.specs.List.{flat_map}
-use Rattle.std.proofs.lemmas.Bool.{both_ways, cases_Bool, cond-true}
+use Rattle.std.proofs.lemmas.Bool.{cases_Bool, cond-true}
 use Rattle.xn_model.specs.Graph.{Graph}
 use Rattle.xn_model.specs.Lists.{at, has}
 use Rattle.xn_model.specs.Loose.{WalksOnly, times_walked}
-use Rattle.xn_model.specs.Map.{IsMap, reverse_of, tail_of}
+use Rattle.xn_model.specs.Map.{reverse_of, tail_of}
 use Rattle.xn_model.proofs.Darts.{reverse-reverse, reverse_below, reverse_other}
 use Rattle.xn_genus.proofs.Compress.{half_reverse}
-use Rattle.xn_track.specs.Track.{IsGround, IsTrack, straight_on}
+use Rattle.xn_track.specs.Track.{IsTrack, straight_on}
 use Rattle.xn_track.proofs.Blocks.{at_place, blocks_apart, place, place_in, size_of}
 use Rattle.xn_track.proofs.Passes.{goes_at, walk_in as dart_of_walk, walk_seam, walked_apart}
 use Rattle.xn_track.proofs.Relink.{at_node}
 use Rattle.xn_simple.specs.Loosened.{ComesFrom}
-use Rattle.xn_simple.specs.Tangle.{GoesOver, IsOther, IsPassOver, IsTangle, ListedTangle, MeetAt, PassesAt, named as is_named, node_in, pass_of, walk_in}
+use Rattle.xn_simple.specs.Tangle.{GoesOver, IsOther, IsPassOver, IsTangle, ListedTangle, MeetAt, named as is_named, node_in, pass_of, walk_in}
 use Rattle.xn_simple.specs.declared.tangle.Pass.{Pass}
 use Rattle.xn_simple.proofs.Apart.{named, named_from}
 

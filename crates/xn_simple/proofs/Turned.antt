@@ -1,15 +1,14 @@
 -- The passes of a walk that is turned.
-use Rattle.std.proofs.Common.{◌≡◌, ◌≢◌, ℕ, zero, suc, ◌+◌, ◌-◌, ◌<◌, ◌≤◌, inl, inr, Bool, true, false, List, [], ◌∷◌, length, refl, sym, ◌∙◌, ap, subst, arith}
-use Rattle.xn_model.specs.Graph.{Graph, IsGraph}
-use Rattle.xn_model.specs.Lists.{at, has}
-use Rattle.xn_model.specs.Map.{reverse_of, tail_of}
-use Rattle.xn_track.specs.Steps.{crossing_over, end_from, node_after, reverse_walk, turned_walk, with_walk}
+use Rattle.std.proofs.Common.{◌≡◌, ◌≢◌, ℕ, suc, ◌+◌, ◌-◌, ◌<◌, Bool, true, false, List, length, refl, sym, ◌∙◌, ap, arith}
+use Rattle.xn_model.specs.Graph.{Graph}
+use Rattle.xn_model.specs.Lists.{at}
+use Rattle.xn_model.specs.Map.{tail_of}
+use Rattle.xn_track.specs.Steps.{crossing_over, end_from, node_after, turned_walk, with_walk}
 use Rattle.xn_track.proofs.Paths.{at-reverse_walk, length-reverse_walk}
 use Rattle.xn_simple.specs.Loosened.{IsLoosened, all_but}
-use Rattle.xn_simple.specs.Tangle.{IsTangle, ListedTangle, MeetAt, named, node_in, unmarked, walk_in}
+use Rattle.xn_simple.specs.Tangle.{IsTangle, ListedTangle, MeetAt, named, node_in, walk_in}
 use Rattle.xn_simple.specs.Untangling.{MeetTwice, place_turned}
 use Rattle.xn_simple.proofs.Loosened.{beginnings_change, closed_parts_go, middles_change}
-use Rattle.xn_simple.proofs.Taken.{mark_in, named_unset}
 use Rattle.xn_simple.proofs.Tangled.{arrives, edge_in}
 
 pub length-turned : (t : Bool) (ds : List ℕ) → length (turned_walk t ds) ≡ length ds

@@ -1,6 +1,6 @@
 -- The next listed dart round a node.
-use Rattle.std.proofs.Common.{◌≡◌, ◌≢◌, ℕ, zero, suc, ◌+◌, ◌*◌, ◌<◌, ◌≤◌, inl, inr, true, false, eqb, ltb, ◌&&◌, List, [], ◌∷◌, ◌++◌, length, get_or, refl, sym, ◌∙◌, ap, subst, arith, length-append}
-use Rattle.std.proofs.lemmas.Bool.{and_from, and_parts, both_ways, cases_Bool, cases_eq, cond-true, cond-false, eq-eqb, eqb-true, lt-ltb, ltb-true}
+use Rattle.std.proofs.Common.{◌≡◌, ◌≢◌, ℕ, zero, suc, ◌+◌, ◌*◌, ◌<◌, inl, inr, true, false, eqb, ltb, ◌&&◌, List, [], ◌∷◌, ◌++◌, length, refl, sym, ◌∙◌, ap, subst, arith, length-append}
+use Rattle.std.proofs.lemmas.Bool.{and_from, and_parts, both_ways, cases_eq, eq-eqb, eqb-true, lt-ltb, ltb-true}
 use Rattle.std.proofs.lemmas.List.{get_or_append_left}
 use Rattle.std.proofs.Math.Seq.{get_or-append_seam}
 use Rattle.xn_model.specs.Lists.{at, has, position_in}
@@ -11,7 +11,7 @@ use Rattle.xn_model.proofs.Tests.{same_tests}
 use Rattle.xn_genus.specs.Part.{ComesFirst, PassesOver}
 use Rattle.xn_map.specs.Listed.{IsListedMap, ListedMap}
 use Rattle.xn_map.proofs.Arcs.{nearer}
-use Rattle.xn_simple.specs.Turning.{AreDartsOnce, AreStarts, HoldPlaces, TurnsAlong}
+use Rattle.xn_simple.specs.Turning.{AreStarts, HoldPlaces, TurnsAlong}
 
 -- a dart is listed where it stands at its noted place
 pub listed_is : (starts places : List ℕ) (d : ℕ) → HoldPlaces starts places → (ltb (at places d) (length starts) && eqb (at starts (at places d)) d) ≡ has starts d

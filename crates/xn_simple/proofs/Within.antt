@@ -1,11 +1,11 @@
 -- Where code looks into a tangle: walks, darts and marks that it reads, and which pass it finds by a note.
-use Rattle.std.proofs.Common.{◌≡◌, ◌≢◌, ℕ, zero, suc, ◌+◌, ◌*◌, ◌/◌, ◌<◌, ◌≤◌, ◌⊎◌, inl, inr, Bool, true, Option, Some, None, Vec, List, [], ◌∷◌, length, get_or, set, refl, sym, ◌∙◌, ap, subst, arith}
+use Rattle.std.proofs.Common.{◌≡◌, ℕ, zero, suc, ◌/◌, ◌<◌, ◌≤◌, inl, inr, Bool, true, Option, Some, None, Vec, List, [], ◌∷◌, length, get_or, set, sym, ◌∙◌, ap, subst, arith}
 use Rattle.std.specs.Prelude.{vec_items}
 use Rattle.std.specs.Global.{Global}
 use Rattle.std.proofs.lemmas.List.{get_or-map, length-map, map-set}
 use Rattle.xn_model.specs.Graph.{Graph}
 use Rattle.xn_model.specs.Lists.{at, has}
-use Rattle.xn_model.specs.Map.{reverse_of, tail_of}
+use Rattle.xn_model.specs.Map.{tail_of}
 use Rattle.xn_model.proofs.Darts.{reverse_other}
 use Rattle.xn_model.proofs.Has.{has-all}
 use Rattle.xn_list.specs.Lists.{lists_of}

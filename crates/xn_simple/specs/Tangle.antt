@@ -1,9 +1,9 @@
 -- Walks over a map that stays as it is, as lists: what may still be a crossing, and which walk goes over a segment.
-use Rattle.std.specs.Prelude.{◌≡◌, ◌≢◌, ◌⊎◌, ℕ, zero, suc, ◌+◌, ◌*◌, ◌/◌, ◌<◌, ◌≤◌, Bool, true, false, Option, Some, None, List, [], ◌∷◌, filter, length, set, not}
+use Rattle.std.specs.Prelude.{◌≡◌, ◌≢◌, ◌⊎◌, ℕ, suc, ◌*◌, ◌/◌, ◌<◌, ◌≤◌, Bool, true, false, Option, Some, List, filter, length, set}
 use Rattle.std.specs.List.{range_with_len}
 use Rattle.xn_list.specs.Lists.{lists_of}
 use Rattle.xn_model.specs.Graph.{Graph, IsGraph}
-use Rattle.xn_model.specs.Lists.{at, has}
+use Rattle.xn_model.specs.Lists.{at}
 use Rattle.xn_model.specs.Loose.{WalksOnly}
 use Rattle.xn_model.specs.Map.{reverse_of, tail_of}
 use Rattle.xn_map.specs.Listed.{IsListedMap, ListedMap}

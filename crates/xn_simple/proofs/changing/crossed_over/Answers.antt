@@ -1,4 +1,4 @@
-use Rattle.std.proofs.Common.{◌++◌, ◌+◌, ◌-◌, drop, length, take, ◌∙◌, ap, arith}
+use Rattle.std.proofs.Common.{◌++◌, ◌+◌, ◌-◌, drop, length, take, ◌∙◌, ap}
 use Rattle.xn_simple.proofs.Changed.{crossing_parts}
 use Rattle.xn_simple.proofs.changing.crossed_over.Goals as goal
 

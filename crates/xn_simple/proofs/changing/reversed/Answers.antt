@@ -1,5 +1,4 @@
-use Rattle.std.proofs.Common.{◌++◌, ◌∷◌, [], sym, ◌∙◌, ap, arith}
-use Rattle.xn_model.specs.Map.{reverse_of}
+use Rattle.std.proofs.Common.{◌∙◌, arith}
 use Rattle.xn_simple.proofs.Changed.{reversed_all, reversed_more, reversed_none}
 use Rattle.xn_simple.proofs.changing.reversed.Goals as goal
 

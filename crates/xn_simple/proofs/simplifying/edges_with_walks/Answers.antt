@@ -1,4 +1,4 @@
-use Rattle.std.proofs.Common.{◌≡◌, ◌<◌, ◌≢◌, length, vec_items, sym, ◌∙◌, ap, arith}
+use Rattle.std.proofs.Common.{◌≢◌, length, vec_items, sym, ◌∙◌, ap, arith}
 use Rattle.std.proofs.lemmas.Bool.{eqb-false, eqb-true}
 use Rattle.xn_list.specs.Lists.{lists_of}
 use Rattle.xn_insert.specs.ListedLoose.{has_dart, walk_of}

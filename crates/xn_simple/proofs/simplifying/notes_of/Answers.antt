@@ -1,6 +1,6 @@
-use Rattle.std.proofs.Common.{◌≡◌, ◌<◌, length, sym, ◌∙◌, ap, arith}
+use Rattle.std.proofs.Common.{◌∙◌, arith}
 use Rattle.xn_list.specs.Lists.{lists_of}
-use Rattle.xn_simple.proofs.Noted.{all_noted, list_there, noted_more, walk_below, walk_once}
+use Rattle.xn_simple.proofs.Noted.{list_there, noted_more, walk_below, walk_once}
 use Rattle.xn_simple.proofs.simplifying.notes_of.Goals as goal
 
 pub note-requires-clause-owners : goal.note-requires-clause-owners

@@ -1,4 +1,4 @@
-use Rattle.std.proofs.Common.{◌≡◌, List, ℕ, length, refl, sym, ◌∙◌, ap, subst}
+use Rattle.std.proofs.Common.{List, ℕ, length, refl, sym, ◌∙◌, ap, subst}
 use Rattle.xn_list.specs.Lists.{lists_of}
 use Rattle.xn_insert.specs.ListedLoose.{loose_of}
 use Rattle.xn_simple.specs.Tangle.{AreFurther, AreNotesOf, IsTangle, ListedTangle, WalksAreApart, edges_walked}

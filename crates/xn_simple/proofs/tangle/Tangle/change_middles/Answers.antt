@@ -1,11 +1,11 @@
-use Rattle.std.proofs.Common.{◌≡◌, ◌+◌, ◌-◌, ◌<◌, suc, length, vec_items, ltb, sym, ◌∙◌, ap, subst, arith}
+use Rattle.std.proofs.Common.{◌≡◌, ◌+◌, ◌-◌, suc, length, vec_items, ltb, ◌∙◌, ap, arith}
 use Rattle.std.proofs.lemmas.Bool.{ltb-false, ltb-true}
 use Rattle.std.proofs.lemmas.List.{length-map}
 use Rattle.xn_model.specs.Map.{tail_of}
 use Rattle.xn_track.specs.Steps.{crossing_over, turned_walk}
 use Rattle.xn_simple.specs.Tangle.{lists_in, node_in, unmarked, walk_in}
 use Rattle.xn_simple.specs.Untangling.{place_turned}
-use Rattle.xn_simple.proofs.Changed.{dart_at, dart_low, exchanged_as, may_two_are, middles_order, middles_two, second_in}
+use Rattle.xn_simple.proofs.Changed.{dart_at, dart_low, exchanged_as, may_two_are, middles_order, middles_two}
 use Rattle.xn_simple.proofs.Noted.{walk_read}
 use Rattle.xn_simple.proofs.Turned.{length-turned}
 use Rattle.xn_simple.proofs.tangle.Tangle.change_middles.Goals as goal
