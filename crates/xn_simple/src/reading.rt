@@ -1,5 +1,5 @@
 // What walks that meet simply say of a drawing: the lists of the edges, and the darts at the ends and the crossings.
-ghost use Rattle.std.specs.Prelude.{◌≡◌, ◌++◌, ◌<◌, ◌≤◌, ℕ, suc, IfOk, OnOk, length, map, true};
+ghost use Rattle.std.specs.Prelude.{◌≡◌, ◌++◌, ◌<◌, ℕ, suc, IfOk, OnOk, length, map, true};
 ghost use Rattle.xn_model.specs.Graph.{Graph};
 ghost use Rattle.xn_model.specs.Lists.{at, has};
 ghost use Rattle.xn_simple.specs.Tangle.{lists_in, node_in, walk_in};
