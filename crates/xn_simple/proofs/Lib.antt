@@ -26,3 +26,5 @@ pub mod Turns
 pub mod Untangled
 pub mod WalksApart
 pub mod Within
+pub mod LaidOut
+pub mod TakenOut

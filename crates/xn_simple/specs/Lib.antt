@@ -1,4 +1,5 @@
 pub mod Crossed
+pub mod LaidAgain
 pub mod Loosened
 pub mod Tangle
 pub mod Tidied

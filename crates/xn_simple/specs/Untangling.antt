@@ -5,11 +5,12 @@ use Rattle.xn_model.specs.Graph.{Graph, Independent}
 use Rattle.xn_model.specs.Lists.{at, has, position_in}
 use Rattle.xn_model.specs.Orders.{crossing_count}
 use Rattle.xn_model.specs.Permutation.{count_below}
+use Rattle.xn_genus.specs.Part.{PassesOver}
 use Rattle.xn_loose.specs.Renaming.{subgraph_of}
 use Rattle.xn_track.specs.Steps.{crossing_over, end_from}
 use Rattle.xn_track.specs.Tidying.{other_at}
 use Rattle.xn_simple.specs.Tangle.{IsTangle, ListedTangle, MeetAt, named, node_in, walk_in}
-use Rattle.xn_simple.specs.Tidied.{is_crossed, order_by_walks, walk_starts}
+use Rattle.xn_simple.specs.Tidied.{is_crossed, order_by_walks, starts_by_walks, walk_starts}
 use Rattle.xn_simple.specs.declared.finding.Step.{Step}
 use Rattle.xn_simple.specs.declared.finding.Step.TheVariants.{Beginnings, Closed, Middles}
 use Rattle.xn_simple.specs.declared.tangle.Pass.{Pass}
@@ -111,6 +112,16 @@ starts_in_walk t e = walk_starts t.map.web.ends (is_crossed t.edges t.map.web.en
 pub record AreNumbers (count : ℕ) (edges numbers : List ℕ) : Type 0 where
   pub fits : length numbers ≡ count
   pub held : (e : ℕ) → has edges e ≡ true → at numbers e ≡ position_in edges e
+
+-- the darts of the walks at their ends and crossings
+abbrev pub starts_in : ListedTangle → List ℕ
+starts_in t = starts_by_walks t.edges t.map.web.ends (named t) (walk_in t)
+
+-- the lists of the edges that are in, under these numbers, and the turns
+pub record IsReadBy (t : ListedTangle) (numbers : List ℕ) (d : Drawing) : Type 0 where
+  pub rows : d.orders ≡ map (λ e. map (at numbers) (order_in t e)) t.edges
+  pub size : length d.next ≡ length (starts_in t)
+  pub over : PassesOver (length (starts_in t)) (at (starts_in t)) (at t.map.next) (at d.next)
 
 -- a drawing of the graph of the edges that are in, with no more crossings than there are named nodes
 pub record IsDrawnBy (g : Graph) (t : ListedTangle) (d : Drawing) : Type 0 where

@@ -8,11 +8,13 @@ pub mod laws;
 mod reading;
 mod simplifying;
 mod starts;
+mod taking_out;
 mod tangle;
 mod turning;
 mod untouching;
 
 pub use simplifying::simplify;
+pub use taking_out::{laid_again, without};
 pub use untouching::untouch;
 
 #[cfg(test)]

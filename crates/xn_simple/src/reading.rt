@@ -1,9 +1,9 @@
 // What walks that meet simply say of a drawing: the lists of the edges, and the darts at the ends and the crossings.
-ghost use Rattle.std.specs.Prelude.{◌≡◌, ◌++◌, ◌<◌, ◌≤◌, ℕ, suc, IfOk, OnOk, length, map, true};
+ghost use Rattle.std.specs.Prelude.{◌≡◌, ◌++◌, ◌<◌, ℕ, suc, IfOk, OnOk, length, map, true};
 ghost use Rattle.xn_model.specs.Graph.{Graph};
 ghost use Rattle.xn_model.specs.Lists.{at, has};
 ghost use Rattle.xn_simple.specs.Tangle.{lists_in, node_in, walk_in};
-ghost use Rattle.xn_simple.specs.Untangling.{AreNumbers, IsDrawnBy, IsUntangled, crossed_at, order_in, starts_in_walk};
+ghost use Rattle.xn_simple.specs.Untangling.{AreNumbers, IsDrawnBy, IsReadBy, IsUntangled, crossed_at, order_in, starts_in_walk};
 
 use crate::tangle::Tangle;
 use crate::turning::turns_along;
@@ -18,10 +18,19 @@ impl Tangle {
         ensures { (g : Graph) → IsUntangled g (lists_in self.now) → IfOk result (IsDrawnBy g (lists_in self.now)) }
     {
         let numbers = numbers_of(alloc, edges, &self.edges)?;
+        let drawing = self.read(alloc, &numbers)?;
+        Ok(drawing)
+    }
+
+    /// The lists of the edges that are in, under these numbers, and the turns.
+    pub fn read(&self, alloc: Global, numbers: &[u32]) -> Result<Drawing, AllocError>
+        requires { (g : Graph) × IsUntangled g (lists_in self.now) × (length numbers.now ≡ length g.ends) }
+        ensures { IfOk result (IsReadBy (lists_in self.now) numbers.now) }
+    {
         let mut orders = Orders::new(Vec::with_capacity(alloc, self.edges.len())?);
         let mut starts = Vec::with_capacity(alloc, 2 * self.map.web().segments() as usize)?;
         for e in &self.edges {
-            orders.push(self.list_along(alloc, &numbers, *e)?)?;
+            orders.push(self.list_along(alloc, numbers, *e)?)?;
             self.push_starts(&mut starts, *e)?;
         }
         let next = turns_along(alloc, &self.map, &starts)?;

@@ -33,7 +33,7 @@ pub fn simplify(alloc: Global, graph: &Graph, loose: Loose) -> Result<Drawing, A
 }
 
 // The tangle of a loose drawing: walks may cross at each further node.
-fn tangle_of(alloc: Global, graph: &Graph, map: Map, walks: Walks) -> Result<Tangle, AllocError>
+pub fn tangle_of(alloc: Global, graph: &Graph, map: Map, walks: Walks) -> Result<Tangle, AllocError>
     requires { IsLooseOf graph.now (loose_of graph.now.nodes map walks) }
     ensures { IfOk result (λ t. IsTangleOf graph.now map (edges_in (loose_of graph.now.nodes map walks)) (lists_in t)) }
 {
@@ -93,7 +93,7 @@ fn notes_of(alloc: Global, segments: u32, lists: &[Vec<u32>]) -> Result<Notes, A
 
 impl Tangle {
     /// Takes steps until no walk gives one. A walk that changed is looked at again.
-    fn untangle(&mut self, alloc: Global, graph: &Graph) -> Result<(), AllocError>
+    pub fn untangle(&mut self, alloc: Global, graph: &Graph) -> Result<(), AllocError>
         requires { IsTangle graph.now (lists_in self.old) }
         ensures { OnOk result (KeepsMap (lists_in self.old) (lists_in self.new) × IsUntangled graph.now (lists_in self.new)) }
     {
