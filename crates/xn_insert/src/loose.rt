@@ -5,6 +5,7 @@ ghost use Rattle.xn_insert.specs.Calls.{DrawsKept, IsStarted};
 ghost use Rattle.xn_insert.specs.ListedLoose.{HasFurtherNodes, edges_in};
 
 mod inserting;
+mod looking;
 
 use crate::starting::walks_in_web;
 use crate::walks::Walks;
