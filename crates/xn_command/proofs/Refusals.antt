@@ -147,7 +147,7 @@ module _ (items : List Item) where
   refused_by (c ∷ f ∷ []) (a ∷ b ∷ more) eo eb none = two_budgets (subst (λ (l : List Text). 1 < length l) (sym eb) (omega arith))
   refused_by (c ∷ f ∷ s ∷ []) [] eo eb none = by_two c f s eo none (which c)
   refused_by (c ∷ f ∷ s ∷ []) (b ∷ more) eo eb none = by_both c f s eo (subst (λ (l : List Text). 0 < length l) (sym eb) (omega arith)) (which c)
-  refused_by (c ∷ f ∷ s ∷ x ∷ others) budgets eo eb none = many_operands (omega (arith, sized (c ∷ f ∷ s ∷ x ∷ others) eo))
+  refused_by (c ∷ f ∷ s ∷ x ∷ rest) budgets eo eb none = many_operands (omega (arith, sized (c ∷ f ∷ s ∷ x ∷ rest) eo))
 
   is_refused : request_by items ≡ None → IsRefused items
   is_refused none = elim (cases_Bool (list_all is_useful items)) [
@@ -193,7 +193,7 @@ module _ (items : List Item) where
   by_unknown (c ∷ f ∷ []) (a ∷ b ∷ more) eo not_known = refl
   by_unknown (c ∷ f ∷ s ∷ []) [] eo not_known = with_two_other c f s (is_other c (ap (λ (l : List Text). slice_get l 0) eo) not_known)
   by_unknown (c ∷ f ∷ s ∷ []) (b ∷ more) eo not_known = refl
-  by_unknown (c ∷ f ∷ s ∷ x ∷ others) budgets eo not_known = refl
+  by_unknown (c ∷ f ∷ s ∷ x ∷ rest) budgets eo not_known = refl
 
   -- the command in front of other operands
   is_this : (c this : Text) (more : List Text) → operands_of items ≡ c ∷ more → HasCommand items this → c ≡ this
@@ -227,7 +227,7 @@ module _ (items : List Item) where
   by_given (c ∷ f ∷ []) (b ∷ []) eo (inr (inl check)) some = ap (λ (t : Text). with_budget t f b) (is_this c (codes "check") (f ∷ []) eo check)
   by_given (c ∷ f ∷ []) (b ∷ []) eo (inr (inr draw)) some = ap (λ (t : Text). with_budget t f b) (is_this c (codes "draw") (f ∷ []) eo draw)
   by_given (c ∷ f ∷ s ∷ []) (b ∷ []) eo known some = refl
-  by_given (c ∷ f ∷ s ∷ x ∷ others) (b ∷ []) eo known some = refl
+  by_given (c ∷ f ∷ s ∷ x ∷ rest) (b ∷ []) eo known some = refl
 
   by_unspelled : (budgets : List Text) (word : Text) → slice_get budgets 0 ≡ Some word → budget_of word ≡ None → asked_by (operands_of items) budgets ≡ None
   by_unspelled [] word has none = absurd cc
