@@ -1,5 +1,5 @@
 -- Operands and budgets that ask for nothing.
-use Rattle.std.proofs.Common.{◌≡◌, ◌∙◌, ℕ, Bool, cond, true, false, not, ◌&&◌, ◌||◌, ◌<◌, ◌==◌, nat_lt, ◌^◌, List, [], ◌∷◌, length, Option, None, refl, sym, ap, ap₂, subst, bytes_eq, codes, true≢false, arith}
+use Rattle.std.proofs.Common.{◌≡◌, ◌∙◌, ℕ, Bool, cond, true, false, not, ◌&&◌, ◌||◌, ◌<◌, ◌==◌, nat_lt, ◌^◌, List, [], ◌∷◌, length, None, refl, sym, ap, ap₂, subst, bytes_eq, codes, true≢false, arith}
 use Rattle.std.specs.List.{list_all}
 use Rattle.std.proofs.lemmas.Bool.{eqb-true}
 use Rattle.clap.specs.Walk.{Text}

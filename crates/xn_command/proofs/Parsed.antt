@@ -1,5 +1,5 @@
 -- What the parser's promise for simple commands says of the words.
-use Rattle.std.proofs.Common.{◌≡◌, ◌∙◌, Bool, cond, true, false, ◌||◌, ◌⊎◌, inl, inr, List, [], ◌∷◌, length, drop, map, Option, None, find, fold, option_map, slice_get, Result, Ok, Err, IfOk, refl, sym, ap, ap₂, subst, codes, string_bytes, String, true≢false, arith}
+use Rattle.std.proofs.Common.{◌≡◌, ◌∙◌, Bool, cond, true, false, ◌||◌, ◌⊎◌, inl, inr, List, [], ◌∷◌, drop, map, Option, None, find, fold, option_map, slice_get, Result, Ok, Err, IfOk, refl, sym, ap, subst, codes, string_bytes, String, true≢false, arith}
 use Rattle.std.specs.List.{list_all, list_any}
 use Rattle.std.specs.Option.{option_map_or}
 use Rattle.std.specs.declared.alloc.Global.{Global}

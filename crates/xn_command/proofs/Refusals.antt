@@ -5,7 +5,7 @@ use Rattle.std.proofs.lemmas.Bool.{and_right, cases_Bool}
 use Rattle.std.proofs.lemmas.Slice.Eq.{bytes_eq-Decides}
 use Rattle.clap.specs.Walk.{Text}
 use Rattle.xn_command.specs.Items.{Item, after_name, budget, budgets_of, is_useful, items_of, operand, operands_of, stray, unvalued}
-use Rattle.xn_command.specs.Refusals.{HasBudgetWord, HasCommand, IsRefused, RefusedExactly, TakesNoBudget, TakesOne, TakesTwo, budget_given, few_operands, many_operands, no_budget, no_command, no_value, second_given, second_missing, stray_word, two_budgets}
+use Rattle.xn_command.specs.Refusals.{HasCommand, IsRefused, RefusedExactly, TakesNoBudget, TakesOne, TakesTwo, budget_given, few_operands, many_operands, no_budget, no_command, no_value, second_given, second_missing, stray_word, two_budgets}
 use Rattle.xn_command.specs.Request.{asked_by, budget_of, request_by, solved_by, with_budget, with_one, with_two}
 use Rattle.xn_command.proofs.Nothing.{few_ask_nothing, many_ask_nothing, nothing_by, twice_ask_nothing, unspelled_ask_nothing}
 
