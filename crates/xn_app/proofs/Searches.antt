@@ -94,8 +94,8 @@ both_searched budget found x y first second =
 -- ---- what was written
 
 module _ (law : AcceptedTextBounds) (graph_text : List ℕ) (budget : ℕ) (found : Found) (is : graph_of_text graph_text ≡ Ok found) (old new : Option (List ℕ)) where
-  abbrev says : (end : Status) → Wrote (OnGraph (Ok found) (Searched budget)) end old new → SaysAnswer graph_text budget old new
-  says end wrote = record {
+  abbrev answered : (end : Status) → Wrote (OnGraph (Ok found) (Searched budget)) end old new → SaysAnswer graph_text budget old new
+  answered end wrote = record {
     found = found;
     graph_is = is;
     is_graph = limited graph_text found is;
@@ -112,7 +112,7 @@ module _ (law : AcceptedTextBounds) (graph_text : List ℕ) (budget : ℕ) (foun
   says_number wrote =
       let shown = bounds wrote.output wrote.comes.answer wrote.comes.is_answer in
       record {
-        says = says Done wrote;
+        says = answered Done wrote;
         decided = wrote.comes.ends;
         number = record { least = subst (IsAtLeast found.graph) wrote.comes.ends shown.0; at_most = shown.1 };
       }
@@ -121,7 +121,7 @@ module _ (law : AcceptedTextBounds) (graph_text : List ℕ) (budget : ℕ) (foun
   says_undecided lower upper spent wrote =
       let shown = bounds wrote.output wrote.comes.answer wrote.comes.is_answer in
       record {
-        says = says (Undecided lower upper spent) wrote;
+        says = answered (Undecided lower upper spent) wrote;
         undecided = wrote.comes.ends;
         least = subst (IsAtLeast found.graph) (sym wrote.comes.ends.lower_is) shown.0;
         at_most = subst (IsAtMost found.graph) (sym wrote.comes.ends.upper_is) shown.1;
