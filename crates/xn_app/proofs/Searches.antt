@@ -3,7 +3,6 @@ use Rattle.std.proofs.Common.{◌≡◌, ℕ, ◌<◌, ◌≤◌, inl, inr, List
 use Rattle.std.proofs.lemmas.Bool.{cases_lt}
 use Rattle.xn_io.specs.Input.{Files, bytes_of}
 use Rattle.xn_model.specs.Drawing.{IsAtLeast, IsAtMost, IsListedDrawing, order_of}
-use Rattle.xn_model.specs.Graph.{Graph}
 use Rattle.xn_model.specs.Orders.{crossing_count}
 use Rattle.xn_kinds.specs.declared.answers.Answer.{Answer}
 use Rattle.xn_proof.specs.Spelling.{text_of}
@@ -21,7 +20,7 @@ use Rattle.xn_app.specs.Ends.{Ran, SaysAnswer, SaysCrossingNumber, SaysUndecided
 use Rattle.xn_app.specs.Outcome.{ComesTo, EndsSearch, IsAnswerFor, IsUndecided, OnGraph, Outcome, Searched, refused_graph}
 use Rattle.xn_app.specs.Status.{IsSearchEnd}
 use Rattle.xn_app.specs.declared.status.Status.{Status}
-use Rattle.xn_app.specs.declared.status.Status.TheVariants.{Done, Refused, Words, Graph as Graphless, Limit, Read, Undecided, Write, Memory}
+use Rattle.xn_app.specs.declared.status.Status.TheVariants.{Done, Refused, Words, Graph, Limit, Read, Undecided, Write, Memory}
 use Rattle.xn_app.proofs.Graphs.{limited}
 use Rattle.xn_app.proofs.Outcomes.{done_is_no_graph}
 
@@ -52,7 +51,7 @@ module _ (found : Found) (budget : ℕ) (r : Solved) (solved : IsSolved found.gr
         absurd (differ same)
   ]
 
-  left_open : a.lower < a.upper → IsUndecided found.graph budget a a.lower a.upper a.spent
+  left_open : a.lower < a.upper → IsUndecided found budget a a.lower a.upper a.spent
   left_open low =
       let unproved = solved.undecided (subst (λ (x : Answer). x.lower < x.upper) is low) in
       record {
@@ -75,21 +74,21 @@ module _ (found : Found) (budget : ℕ) (r : Solved) (solved : IsSolved found.gr
 
 -- ---- the ends of a search
 
-search_end : (g : Graph) (budget : ℕ) (a : Answer) (end : Status) → EndsSearch g budget a end → IsSearchEnd end
-search_end g budget a Done ends = tt
-search_end g budget a (Undecided lower upper spent) ends = tt
-search_end g budget a (Refused flaw) ends = absurd ends
-search_end g budget a Words ends = absurd ends
-search_end g budget a (Graphless e) ends = absurd ends
-search_end g budget a (Limit l) ends = absurd ends
-search_end g budget a Read ends = absurd ends
-search_end g budget a Write ends = absurd ends
-search_end g budget a Memory ends = absurd ends
+search_end : (found : Found) (budget : ℕ) (a : Answer) (end : Status) → EndsSearch found budget a end → IsSearchEnd end
+search_end found budget a Done ends = tt
+search_end found budget a (Undecided lower upper spent) ends = tt
+search_end found budget a (Refused flaw) ends = absurd ends
+search_end found budget a Words ends = absurd ends
+search_end found budget a (Graph e) ends = absurd ends
+search_end found budget a (Limit l) ends = absurd ends
+search_end found budget a Read ends = absurd ends
+search_end found budget a Write ends = absurd ends
+search_end found budget a Memory ends = absurd ends
 
 -- two of them
 pub both_searched : (budget : ℕ) (found : Found) (x y : Outcome) → Searched budget found x → Searched budget found y → IsSearchEnd x.0 × IsSearchEnd y.0
 both_searched budget found x y first second =
-    (search_end found.graph budget first.answer x.0 first.ends, search_end found.graph budget second.answer y.0 second.ends)
+    (search_end found budget first.answer x.0 first.ends, search_end found budget second.answer y.0 second.ends)
 
 -- ---- what was written
 

@@ -103,6 +103,6 @@ pub record SaysCrossingNumber (graph_text : List ℕ) (budget : ℕ) (old new : 
 -- node limit
 pub record SaysUndecided (graph_text : List ℕ) (budget lower upper spent : ℕ) (old new : Option (List ℕ)) : Type 0 where
   pub says : SaysAnswer graph_text budget old new
-  pub undecided : IsUndecided says.found.graph budget says.answer lower upper spent
+  pub undecided : IsUndecided says.found budget says.answer lower upper spent
   pub least : IsAtLeast says.found.graph lower
   pub at_most : IsAtMost says.found.graph upper

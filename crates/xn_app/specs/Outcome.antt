@@ -9,7 +9,6 @@ use Rattle.xn_gml.specs.declared.errors.GmlErr.TheVariants as gml
 use Rattle.xn_io.specs.Input.{Files, bytes_of}
 use Rattle.xn_kinds.specs.declared.answers.Answer.{Answer}
 use Rattle.xn_kinds.specs.declared.flaws.Flaw.{Flaw}
-use Rattle.xn_model.specs.Graph.{Graph}
 use Rattle.xn_model.specs.Limit.{IsBelowLimit}
 use Rattle.xn_proof.specs.Refusal.{flaw_line}
 use Rattle.xn_show.specs.Text.{show_text}
@@ -66,25 +65,25 @@ pub record IsAnswerFor (found : Found) (budget : ℕ) (text : List ℕ) (a : Ans
   pub few_nodes : 1 ≤ a.lower → length a.tree ≤ a.spent
 
 -- the numbers are those of an answer whose bounds differ: the whole budget is spent, and was below the node limit
-pub record IsUndecided (g : Graph) (budget : ℕ) (a : Answer) (lower upper spent : ℕ) : Type 0 where
+pub record IsUndecided (found : Found) (budget : ℕ) (a : Answer) (lower upper spent : ℕ) : Type 0 where
   pub lower_is : lower ≡ a.lower
   pub upper_is : upper ≡ a.upper
   pub spent_is : spent ≡ a.spent
   pub apart : lower < upper
   pub whole : spent ≡ budget
-  pub below : IsBelowLimit g budget
+  pub below : IsBelowLimit found.graph budget
 
 -- the end to which an answer that was found leads: done exactly where its bounds are one number
-abbrev pub EndsSearch : Graph → ℕ → Answer → Status → Type 0
-EndsSearch g budget a Done = a.lower ≡ a.upper
-EndsSearch g budget a (Undecided lower upper spent) = IsUndecided g budget a lower upper spent
-EndsSearch g budget a end = ⊥
+abbrev pub EndsSearch : Found → ℕ → Answer → Status → Type 0
+EndsSearch found budget a Done = a.lower ≡ a.upper
+EndsSearch found budget a (Undecided lower upper spent) = IsUndecided found budget a lower upper spent
+EndsSearch found budget a end = ⊥
 
 -- what the search of a graph within a budget comes to: the text of an answer for it
 pub record Searched (budget : ℕ) (found : Found) (outcome : Outcome) : Type 0 where
   pub answer : Answer
   pub is_answer : IsAnswerFor found budget outcome.1 answer
-  pub ends : EndsSearch found.graph budget answer outcome.0
+  pub ends : EndsSearch found budget answer outcome.0
 
 -- what is asked comes to this, with these files
 abbrev pub ComesTo : Files → Request → Outcome → Type 0

@@ -120,11 +120,11 @@ returns-in-Ok-work-clause-undecided g c =
     let ran = ran_on told r status output old new before after end judged finishes comes in
     solved_undecided c.accepted_bounds.ensures told graph budget lower upper spent r end old new (asked_same (words_request c.args.words.now) r (solve graph budget) c.in-Ok.ensures.gives asks) ended ran
 
-pub returns-clause-exact : goal.returns-clause-exact
-returns-clause-exact g c =
+pub returns-in-Err-clause-exact : goal.returns-in-Err-clause-exact
+returns-in-Err-clause-exact g c =
     let told = g.I.Input.told c.args.input.now in
     let r = request_of_command c.in-Ok.command in
-    let end = c.in-Err-work.status in
+    let end = c.in-Err.status in
     let early : IsEarly end = search rules in
     let quits : IfSome told (λ files. Quits (ComesTo files r) end) = search rules in
     let laws = c.one_outcome.ensures in
