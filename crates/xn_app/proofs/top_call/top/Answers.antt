@@ -1,4 +1,4 @@
-use Rattle.std.proofs.Common.{◌≡◌, ◌⊎◌, IfSome, rules}
+use Rattle.std.proofs.Common.{◌⊎◌, IfSome, rules}
 use Rattle.xn_command.specs.Gives.{request_of_command, words_request}
 use Rattle.xn_command.specs.Request.{check, draw, examine, solve}
 use Rattle.xn_app.specs.Ends.{Finishes, Quits}
