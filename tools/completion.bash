@@ -6,12 +6,16 @@ _xnum() {
   compopt +o filenames
   COMPREPLY=()
   if ((COMP_CWORD == 1)); then
-    mapfile -t COMPREPLY < <(compgen -W 'check draw examine' -- "$word")
+    mapfile -t COMPREPLY < <(compgen -W 'check draw examine solve' -- "$word")
     return
   fi
   case $command:$COMP_CWORD in
-  check:2 | draw:2) without='!*.gml' ;;
+  check:2 | draw:2 | solve:2) without='!*.gml' ;;
   check:3 | draw:3 | examine:2) ;;
+  solve:3)
+    mapfile -t COMPREPLY < <(compgen -W '--budget' -- "$word")
+    return
+    ;;
   *) return ;;
   esac
   compopt -o filenames

@@ -7,13 +7,14 @@ use Rattle.xn_app.specs.Ends.{Finishes, Ran}
 use Rattle.xn_app.specs.Outcome.{ComesTo, Outcome}
 use Rattle.xn_app.specs.Status.{IsVerdictEnd}
 use Rattle.xn_app.specs.declared.status.Status.{Status}
-use Rattle.xn_app.specs.declared.status.Status.TheVariants.{Done, Refused, Words, Graph, Limit, Read, Write, Memory}
+use Rattle.xn_app.specs.declared.status.Status.TheVariants.{Done, Refused, Words, Graph, Limit, Read, Undecided, Write, Memory}
 
 -- ---- the bytes of a judged end
 
 wrote_all : (Comes : Outcome → Type 0) (end : Status) (output : List ℕ) (old new : Option (List ℕ)) → IsVerdictEnd end → Comes (end, output) → Appends old new output → Ran Comes end old new
 wrote_all Comes Done output old new judged comes written = record { output = output; comes = comes; written = written }
 wrote_all Comes (Refused flaw) output old new judged comes written = record { output = output; comes = comes; written = written }
+wrote_all Comes (Undecided lower upper spent) output old new judged comes written = record { output = output; comes = comes; written = written }
 wrote_all Comes Write output old new judged comes written = absurd judged
 wrote_all Comes Words output old new judged comes written = absurd judged
 wrote_all Comes (Graph e) output old new judged comes written = absurd judged

@@ -3,3 +3,4 @@ pub mod Graphs
 pub mod Lines
 pub mod OneOutcome
 pub mod Outcomes
+pub mod Searches

@@ -5,7 +5,7 @@ use Rattle.xn_io.specs.Causes.{HasCause, Rose}
 use Rattle.xn_io.specs.Sink.{TakesPart}
 use Rattle.xn_app.specs.Status.{IsSilent, code_of}
 use Rattle.xn_app.specs.declared.status.Status.{Status}
-use Rattle.xn_app.specs.declared.status.Status.TheVariants.{Done, Refused, Words, Graph, Limit, Read, Write, Memory}
+use Rattle.xn_app.specs.declared.status.Status.TheVariants.{Done, Refused, Words, Graph, Limit, Read, Undecided, Write, Memory}
 
 -- bytes were written, or a front of them and the sink failed
 pub said : {E : Type 0} (r : Result Unit E) (old new : Option (List ℕ)) (bytes : List ℕ) (before after : ℕ) →
@@ -21,6 +21,7 @@ zero_is_done (Refused flaw) zero = absurd (omega (arith, zero))
 zero_is_done Words zero = absurd (omega (arith, zero))
 zero_is_done (Graph e) zero = absurd (omega (arith, zero))
 zero_is_done (Limit l) zero = absurd (omega (arith, zero))
+zero_is_done (Undecided lower upper spent) zero = absurd (omega (arith, zero))
 zero_is_done Read zero = absurd (omega (arith, zero))
 zero_is_done Write zero = absurd (omega (arith, zero))
 zero_is_done Memory zero = absurd (omega (arith, zero))

@@ -67,7 +67,7 @@ not_done (gml.Repeated at) d = cc
 not_done (gml.Unknown at) d = cc
 not_done (gml.Range at) d = cc
 
-done_is_no_graph : (e : GmlErr) (output : List ℕ) (Rest : Found → Outcome → Type 0) → OnGraph (Err e) Rest (Done, output) → ⊥
+pub done_is_no_graph : (e : GmlErr) (output : List ℕ) (Rest : Found → Outcome → Type 0) → OnGraph (Err e) Rest (Done, output) → ⊥
 done_is_no_graph e output Rest is = not_done e (ap (λ (o : Outcome). o.0) is)
 
 says_bounds : (law : AcceptedTextBounds) (graph_text text : List ℕ) (read : Result Found GmlErr) (old new : Option (List ℕ)) → graph_of_text graph_text ≡ read →

@@ -5,11 +5,12 @@ use Rattle.std.specs.Map.{keys_of}
 use Rattle.xn_io.specs.Causes.{Rose}
 use Rattle.xn_io.specs.Input.{Files}
 use Rattle.xn_io.specs.Sink.{TakesPart}
-use Rattle.xn_model.specs.Drawing.{IsAtMost, IsAtLeast}
+use Rattle.xn_model.specs.Drawing.{IsAtMost, IsAtLeast, IsCrossingNumber}
 use Rattle.xn_check.specs.Laws.{SpellsDrawing, SpellsFront}
 use Rattle.xn_draw.specs.declared.results.Seen.{Seen}
 use Rattle.xn_gml.specs.Meaning.{Found, graph_of_text}
 use Rattle.xn_graph.specs.Limits.{IsLimitedGraph}
+use Rattle.xn_kinds.specs.declared.answers.Answer.{Answer}
 use Rattle.xn_kinds.specs.declared.drawings.Drawing.{Drawing}
 use Rattle.xn_show.specs.Text.{show_text}
 use Rattle.xn_command.specs.Request.{Request}
@@ -17,7 +18,7 @@ use Rattle.xn_app.specs.declared.status.Limit.TheVariants.{Bytes}
 use Rattle.xn_app.specs.declared.status.Status.{Status}
 use Rattle.xn_app.specs.declared.status.Status.TheVariants.{Words, Limit, Read, Write, Memory}
 use Rattle.xn_app.specs.Files.{EndsReading}
-use Rattle.xn_app.specs.Outcome.{Outcome}
+use Rattle.xn_app.specs.Outcome.{IsAnswerFor, IsUndecided, Outcome}
 use Rattle.xn_app.specs.Output.{accepted_line, seen_line}
 
 -- this holds of what is asked and of the files, where words ask for something and the files are told
@@ -80,3 +81,28 @@ pub record SaysDrawing (text : List ℕ) (old new : Option (List ℕ)) : Type 0 
   pub seen : Seen
   pub spelled : SpellsFront text seen
   pub written : Appends old new (seen_line seen)
+
+-- the text of a graph has this one, and an answer for it was written that `check` accepts: a drawing with `upper` crossings, and a
+-- proof of `lower`
+pub record SaysAnswer (graph_text : List ℕ) (budget : ℕ) (old new : Option (List ℕ)) : Type 0 where
+  pub found : Found
+  pub graph_is : graph_of_text graph_text ≡ Ok found
+  pub is_graph : IsLimitedGraph found.graph
+  pub text : List ℕ
+  pub answer : Answer
+  pub is_answer : IsAnswerFor found budget text answer
+  pub written : Appends old new text
+
+-- both bounds are one number, and it is the crossing number
+pub record SaysCrossingNumber (graph_text : List ℕ) (budget : ℕ) (old new : Option (List ℕ)) : Type 0 where
+  pub says : SaysAnswer graph_text budget old new
+  pub decided : says.answer.lower ≡ says.answer.upper
+  pub number : IsCrossingNumber says.found.graph says.answer.upper
+
+-- its bounds are these two, which differ, and the crossing number lies between them: the whole budget is spent, and was below the
+-- node limit
+pub record SaysUndecided (graph_text : List ℕ) (budget lower upper spent : ℕ) (old new : Option (List ℕ)) : Type 0 where
+  pub says : SaysAnswer graph_text budget old new
+  pub undecided : IsUndecided says.found budget says.answer lower upper spent
+  pub least : IsAtLeast says.found.graph lower
+  pub at_most : IsAtMost says.found.graph upper

@@ -4,12 +4,12 @@ use Rattle.std.specs.Io.KnownBytes.{Appends}
 use Rattle.xn_io.specs.Causes.{Rose}
 use Rattle.xn_io.specs.Input.{Files, bytes_of}
 use Rattle.xn_io.specs.Sink.{TakesPart}
-use Rattle.xn_command.specs.Request.{Request, check, draw, examine}
+use Rattle.xn_command.specs.Request.{Request, check, draw, examine, solve}
 use Rattle.xn_app.specs.declared.status.Status.{Status}
-use Rattle.xn_app.specs.declared.status.Status.TheVariants.{Done, Words, Write, Memory}
-use Rattle.xn_app.specs.Ends.{Ran, SaysBounds, SaysDrawing, SaysShown, Told}
-use Rattle.xn_app.specs.Files.{IsLastBegun, Shows, answer_of}
-use Rattle.xn_app.specs.Outcome.{ComesTo, Outcome}
+use Rattle.xn_app.specs.declared.status.Status.TheVariants.{Done, Undecided, Words, Write, Memory}
+use Rattle.xn_app.specs.Ends.{Ran, SaysBounds, SaysCrossingNumber, SaysDrawing, SaysShown, SaysUndecided, Told}
+use Rattle.xn_app.specs.Files.{IsLastBegun, Shows, last_of}
+use Rattle.xn_app.specs.Outcome.{AreOneEnd, ComesTo, Outcome}
 use Rattle.xn_app.specs.Status.{IsAside, IsJudgedEnd, IsSilent, IsStarted, code_of}
 use Rattle.xn_app.specs.Texts.{told_line}
 
@@ -41,16 +41,20 @@ pub record IsEnd (asked : Option Request) (input : Reading) (out : Writing) (end
   pub no_words : IfNone asked ((end ≡ Words) ⊎ (end ≡ Memory))
   pub words : IfSome asked (λ r. (end ≡ Words) → ⊥)
   pub ran : Told asked input.told (λ r files. Ran (ComesTo files r) end out.old out.new)
-  pub exact : Told asked input.told (λ r files. (outcome : Outcome) → ComesTo files r outcome → IsAside end ⊎ (end ≡ outcome.0))
+  pub exact : Told asked input.told (λ r files. (outcome : Outcome) → ComesTo files r outcome → IsAside end ⊎ AreOneEnd r end outcome.0)
   pub bounds : (graph answer : List ℕ) → asked ≡ Some (check graph answer) → end ≡ Done →
       IfSome input.told (λ files. SaysBounds (bytes_of files graph) out.old out.new)
   pub drawing : (answer : List ℕ) → asked ≡ Some (examine answer) → end ≡ Done →
       IfSome input.told (λ files. SaysDrawing (bytes_of files answer) out.old out.new)
   pub shown : (graph answer : List ℕ) → asked ≡ Some (draw graph answer) → end ≡ Done →
       IfSome input.told (λ files. SaysShown (bytes_of files graph) (bytes_of files answer) out.old out.new)
+  pub number : (graph : List ℕ) (budget : ℕ) → asked ≡ Some (solve graph budget) → end ≡ Done →
+      IfSome input.told (λ files. SaysCrossingNumber (bytes_of files graph) budget out.old out.new)
+  pub undecided : (graph : List ℕ) (budget lower upper spent : ℕ) → asked ≡ Some (solve graph budget) → end ≡ Undecided lower upper spent →
+      IfSome input.told (λ files. SaysUndecided (bytes_of files graph) budget lower upper spent out.old out.new)
   pub shows : Shows input.told input.name input.before input.after input.failed input.got end
   pub begun : IfSome asked (λ r. IsStarted end → IsLastBegun input.told input.name r)
-  pub last : IfSome asked (λ r. IsJudgedEnd end → input.name ≡ Some (answer_of r))
+  pub last : IfSome asked (λ r. IsJudgedEnd end → input.name ≡ Some (last_of r))
   pub write : end ≡ Write → Rose out.before out.after
   pub untouched : IsSilent end → (out.new ≡ out.old) × (out.after ≡ out.before)
 

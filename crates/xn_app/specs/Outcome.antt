@@ -1,19 +1,23 @@
 -- What a command comes to: its end, and the bytes that belong to it.
-use Rattle.std.specs.Prelude.{◌≡◌, ℕ, List, [], Result, Ok, Err}
+use Rattle.std.specs.Prelude.{◌≡◌, ◌⊎◌, ℕ, ◌<◌, ◌≤◌, List, [], length, Result, Ok, Err}
 use Rattle.std.specs.Map.{keys_of}
+use Rattle.xn_check.specs.Laws.{Spells}
 use Rattle.xn_check.specs.Verdict.{DrawVerdict, FrontVerdict, Verdict}
 use Rattle.xn_gml.specs.Meaning.{Found, graph_of_text}
 use Rattle.xn_gml.specs.declared.errors.GmlErr.{GmlErr}
 use Rattle.xn_gml.specs.declared.errors.GmlErr.TheVariants as gml
 use Rattle.xn_io.specs.Input.{Files, bytes_of}
+use Rattle.xn_kinds.specs.declared.answers.Answer.{Answer}
 use Rattle.xn_kinds.specs.declared.flaws.Flaw.{Flaw}
+use Rattle.xn_model.specs.Limit.{IsBelowLimit}
 use Rattle.xn_proof.specs.Refusal.{flaw_line}
 use Rattle.xn_show.specs.Text.{show_text}
-use Rattle.xn_command.specs.Request.{Request, check, draw, examine}
+use Rattle.xn_command.specs.Request.{Request, check, draw, examine, solve}
 use Rattle.xn_app.specs.Output.{accepted_line, seen_line}
+use Rattle.xn_app.specs.Status.{IsSearchEnd}
 use Rattle.xn_app.specs.declared.status.Limit.TheVariants.{Edges, Nodes}
 use Rattle.xn_app.specs.declared.status.Status.{Status}
-use Rattle.xn_app.specs.declared.status.Status.TheVariants.{Done, Graph, Limit, Memory, Refused}
+use Rattle.xn_app.specs.declared.status.Status.TheVariants.{Done, Graph, Limit, Memory, Refused, Undecided}
 
 -- an end, and the bytes that belong to it
 abbrev pub Outcome : Type 0
@@ -52,8 +56,45 @@ Checked text found outcome = IsByVerdict (Verdict found.graph found.loops text) 
 abbrev pub Drawn : List ℕ → Found → Outcome → Type 0
 Drawn text found outcome = IsByVerdict (DrawVerdict found.graph found.loops text) (show_text found.graph (keys_of found.ids)) outcome
 
+-- the text is the one spelling of the answer, which has the graph, its loops and the budget; the verdict on it is that it is accepted
+-- with its bounds, and where its proof shows anything, its tree is no larger than what was spent
+pub record IsAnswerFor (found : Found) (budget : ℕ) (text : List ℕ) (a : Answer) : Type 0 where
+  pub spelled : Spells found.graph found.loops text a
+  pub budget_is : a.budget ≡ budget
+  pub accepted : Verdict found.graph found.loops text (Ok (a.lower, a.upper))
+  pub few_nodes : 1 ≤ a.lower → length a.tree ≤ a.spent
+
+-- the numbers are those of an answer whose bounds differ: the whole budget is spent, and was below the node limit
+pub record IsUndecided (found : Found) (budget : ℕ) (a : Answer) (lower upper spent : ℕ) : Type 0 where
+  pub lower_is : lower ≡ a.lower
+  pub upper_is : upper ≡ a.upper
+  pub spent_is : spent ≡ a.spent
+  pub apart : lower < upper
+  pub whole : spent ≡ budget
+  pub below : IsBelowLimit found.graph budget
+
+-- the end to which an answer that was found leads: done exactly where its bounds are one number
+abbrev pub EndsSearch : Found → ℕ → Answer → Status → Type 0
+EndsSearch found budget a Done = a.lower ≡ a.upper
+EndsSearch found budget a (Undecided lower upper spent) = IsUndecided found budget a lower upper spent
+EndsSearch found budget a end = ⊥
+
+-- what the search of a graph within a budget comes to: the text of an answer for it
+pub record Searched (budget : ℕ) (found : Found) (outcome : Outcome) : Type 0 where
+  pub answer : Answer
+  pub is_answer : IsAnswerFor found budget outcome.1 answer
+  pub ends : EndsSearch found budget answer outcome.0
+
 -- what is asked comes to this, with these files
 abbrev pub ComesTo : Files → Request → Outcome → Type 0
+ComesTo files (solve graph budget) outcome = OnGraph (graph_of_text (bytes_of files graph)) (Searched budget) outcome
 ComesTo files (examine answer) outcome = Examined (bytes_of files answer) outcome
 ComesTo files (check graph answer) outcome = OnGraph (graph_of_text (bytes_of files graph)) (Checked (bytes_of files answer)) outcome
 ComesTo files (draw graph answer) outcome = OnGraph (graph_of_text (bytes_of files graph)) (Drawn (bytes_of files answer)) outcome
+
+-- two ends to which the same files lead are one end, but that a search may be done or not
+abbrev pub AreOneEnd : Request → Status → Status → Type 0
+AreOneEnd (solve graph budget) x y = (IsSearchEnd x × IsSearchEnd y) ⊎ (x ≡ y)
+AreOneEnd (examine answer) x y = x ≡ y
+AreOneEnd (check graph answer) x y = x ≡ y
+AreOneEnd (draw graph answer) x y = x ≡ y

@@ -4,7 +4,7 @@ use Rattle.xn_gml.specs.declared.errors.GmlErr.{GmlErr}
 use Rattle.xn_gml.specs.declared.errors.GmlErr.TheVariants as gml
 use Rattle.xn_app.specs.declared.status.Limit.TheVariants.{Bytes, Edges, Nodes}
 use Rattle.xn_app.specs.declared.status.Status.{Status}
-use Rattle.xn_app.specs.declared.status.Status.TheVariants.{Done, Refused, Words, Graph, Limit, Read, Write, Memory}
+use Rattle.xn_app.specs.declared.status.Status.TheVariants.{Done, Refused, Words, Graph, Limit, Read, Undecided, Write, Memory}
 
 -- why a text has no graph; where that has an offset, it follows
 abbrev pub graph_text_of : GmlErr → List ℕ
@@ -34,6 +34,7 @@ graph_offset_of e = None
 abbrev pub text_of : Status → List ℕ
 text_of Done = []
 text_of (Refused flaw) = []
+text_of (Undecided lower upper spent) = []
 text_of Words = codes "xnum: the words are not a command of this program"
 text_of (Graph e) = graph_text_of e
 text_of (Limit Nodes) = codes "xnum: more than 1000 nodes"

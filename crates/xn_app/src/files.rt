@@ -1,8 +1,9 @@
 // Reading the files of a command.
-ghost use Rattle.std.specs.Prelude.{◌≡◌, ◌≤◌, Some, IfOk, IfErr, IfSome, length};
+ghost use Rattle.std.specs.Prelude.{◌≡◌, ◌≤◌, Ok, Some, IfOk, IfErr, IfSome, length};
 ghost use Rattle.std.specs.String.{string_bytes};
+ghost use Rattle.xn_gml.specs.Meaning.{graph_of_text};
 ghost use Rattle.xn_gml.specs.ReadView.{found_in};
-ghost use Rattle.xn_io.specs.Input.{AreAllOf};
+ghost use Rattle.xn_io.specs.Input.{AreAllOf, bytes_of};
 ghost use Rattle.xn_app.specs.Status.{IsEarly};
 ghost use Rattle.xn_app.specs.Files.{AreRead, EndsReading, IsFine, IsOneBegun, Shows, StopsReading};
 
@@ -26,6 +27,21 @@ pub fn read_file<I: Input>(alloc: Global, input: &mut I, name: String) -> Result
     ensures later { I.faults input.old ≤ I.faults input.new }
 {
     Ok(read_all(alloc, input, name, MAX_BYTES)?)
+}
+
+/// The graph of a file, or the end of the run without it.
+pub fn read_one<I: Input>(alloc: Global, input: &mut I, graph: String) -> Result<Read, Status>
+    ensures read { IfOk result (λ read. IfSome (I.told input.old)
+        (λ files. graph_of_text (bytes_of files (string_bytes graph)) ≡ Ok (found_in read))) }
+    ensures fine { IfOk result (λ read. IsFine (I.failed input.new) (I.got input.new)) }
+    ensures early { IfErr result IsEarly }
+    ensures stops { IfErr result (StopsReading (I.told input.old) (string_bytes graph)) }
+    ensures shows { IfErr result (Shows (I.told input.old) (I.name input.new) (I.faults input.old) (I.faults input.new)
+        (I.failed input.new) (I.got input.new)) }
+    ensures name { I.name input.new ≡ Some (string_bytes graph) }
+{
+    let text = read_file(alloc, input, graph)?;
+    Ok(read_graph(alloc, &text)?)
 }
 
 /// The graph of one file, and all the bytes of another, which is read only where there is a graph; or the end of

@@ -6,6 +6,7 @@ mod files;
 mod judging;
 mod output;
 mod running;
+mod searching;
 mod status;
 mod system;
 mod telling;

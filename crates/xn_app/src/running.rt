@@ -2,8 +2,8 @@
 ghost use Rattle.std.specs.Prelude.{◌≡◌, List, ℕ, Some, IfSome};
 ghost use Rattle.xn_io.specs.Input.{bytes_of};
 ghost use Rattle.xn_command.specs.Gives.{words_request};
-ghost use Rattle.xn_command.specs.Request.{check};
-ghost use Rattle.xn_app.specs.Ends.{SaysBounds};
+ghost use Rattle.xn_command.specs.Request.{check, solve};
+ghost use Rattle.xn_app.specs.Ends.{SaysBounds, SaysCrossingNumber};
 ghost use Rattle.xn_app.specs.Exits.{Exits};
 
 use crate::telling::tell;
@@ -49,6 +49,11 @@ pub fn run<I: Input, K: Sink, E: Sink>(
     ensures bounds { (graph answer : List ℕ) → words_request words.now ≡ Some (check graph answer) → result ≡ 0
         → IfSome (I.told input.old)
         (λ files. SaysBounds (bytes_of files graph) (K.taken out.old) (K.taken out.new)) }
+
+    // And what that of `solve` means.
+    ensures number { (graph : List ℕ) (budget : ℕ) → words_request words.now ≡ Some (solve graph budget) → result ≡ 0
+        → IfSome (I.told input.old)
+        (λ files. SaysCrossingNumber (bytes_of files graph) budget (K.taken out.old) (K.taken out.new)) }
 {
     let end = top(alloc, words, input, out);
     tell(end, errors)

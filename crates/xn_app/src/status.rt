@@ -34,6 +34,15 @@ pub enum Status {
     Graph(GmlErr),
     /// The input passes a limit.
     Limit(Limit),
+    /// The budget of a search is spent, and the bounds differ.
+    Undecided {
+        /// What the proof shows.
+        lower: u32,
+        /// The crossings of the drawing.
+        upper: u32,
+        /// How many tree nodes were opened.
+        spent: u64,
+    },
     /// A read failed.
     Read,
     /// A write failed.
@@ -53,6 +62,7 @@ impl Status {
             Status::Words => 2,
             Status::Graph(_) => 3,
             Status::Limit(_) => 4,
+            Status::Undecided { .. } => 5,
             Status::Read => 6,
             Status::Write => 7,
             Status::Memory => 8,
@@ -66,7 +76,7 @@ impl Status {
         ensures short { length result.now ≤ 50 }
     {
         match self {
-            Status::Done | Status::Refused(_) => "",
+            Status::Done | Status::Refused(_) | Status::Undecided { .. } => "",
             Status::Words => "xnum: the words are not a command of this program",
             Status::Graph(error) => graph_text(*error),
             Status::Limit(Limit::Nodes) => "xnum: more than 1000 nodes",

@@ -2,15 +2,16 @@
 ghost use Rattle.std.specs.Prelude.{◌≡◌, ◌⊎◌, List, ℕ, Some, IfOk, IfErr, IfSome, IfNone};
 ghost use Rattle.xn_io.specs.Causes.{Rose};
 ghost use Rattle.xn_io.specs.Input.{bytes_of};
-ghost use Rattle.xn_command.specs.Gives.{request_of_command, words_request};
-ghost use Rattle.xn_command.specs.Request.{check, draw, examine};
-ghost use Rattle.xn_app.specs.Ends.{Finishes, Quits, Ran, SaysBounds, SaysDrawing, SaysShown, Told};
-ghost use Rattle.xn_app.specs.Files.{IsLastBegun, IsFine, Shows, answer_of};
-ghost use Rattle.xn_app.specs.Outcome.{ComesTo, Outcome};
+ghost use Rattle.xn_command.specs.Gives.{HasSmallBudget, request_of_command, words_request};
+ghost use Rattle.xn_command.specs.Request.{check, draw, examine, solve};
+ghost use Rattle.xn_app.specs.Ends.{Finishes, Quits, Ran, SaysBounds, SaysCrossingNumber, SaysDrawing, SaysShown, SaysUndecided, Told};
+ghost use Rattle.xn_app.specs.Files.{IsLastBegun, IsFine, Shows, last_of};
+ghost use Rattle.xn_app.specs.Outcome.{AreOneEnd, ComesTo, Outcome};
 ghost use Rattle.xn_app.specs.Status.{IsAside, IsEarly, IsJudgedEnd, IsSilent, IsStarted, IsVerdictEnd};
 
-use crate::files::{read_both, read_file};
+use crate::files::{read_both, read_file, read_one};
 use crate::judging::{checked, drawn, examined};
+use crate::searching::searched;
 use crate::status::Status;
 use std::alloc::Global;
 use xn_check::laws::{accepted_bounds, drawn_texts, one_outcome, seen_texts};
@@ -31,9 +32,10 @@ pub fn top<I: Input, K: Sink>(alloc: Global, words: &[String], input: &mut I, ou
     ensures ran { Told (words_request words.now) (I.told input.old)
         (λ asked files. Ran (ComesTo files asked) result (K.taken out.old) (K.taken out.new)) }
 
-    // And where the files lead to an end, it is this one, but for those.
+    // And where the files lead to an end, it is this one, but for those: a search alone may be done or undecided, as
+    // its answer is.
     ensures exact { Told (words_request words.now) (I.told input.old)
-        (λ asked files. (outcome : Outcome) → ComesTo files asked outcome → IsAside result ⊎ (result ≡ outcome.0)) }
+        (λ asked files. (outcome : Outcome) → ComesTo files asked outcome → IsAside result ⊎ AreOneEnd asked result outcome.0) }
 
     // What Done means: an accepted answer, whatever it is, bounds the crossing number of its graph from both sides;
     // what is examined or shown is a drawing.
@@ -47,13 +49,22 @@ pub fn top<I: Input, K: Sink>(alloc: Global, words: &[String], input: &mut I, ou
         → IfSome (I.told input.old)
         (λ files. SaysShown (bytes_of files graph) (bytes_of files answer) (K.taken out.old) (K.taken out.new)) }
 
+    // What `solve` means: where it is done, an answer was written whose bounds are both the crossing number; where it
+    // is undecided, one whose bounds differ, and the budget, all of it spent, was below the node limit.
+    ensures number { (graph : List ℕ) (budget : ℕ) → words_request words.now ≡ Some (solve graph budget)
+        → result ≡ Status.Done → IfSome (I.told input.old)
+        (λ files. SaysCrossingNumber (bytes_of files graph) budget (K.taken out.old) (K.taken out.new)) }
+    ensures undecided { (graph : List ℕ) (budget lower upper spent : ℕ) → words_request words.now ≡ Some (solve graph budget)
+        → result ≡ Status.Undecided lower upper spent → IfSome (I.told input.old)
+        (λ files. SaysUndecided (bytes_of files graph) budget lower upper spent (K.taken out.old) (K.taken out.new)) }
+
     // What the input and the sink show at the end.
     ensures shows { Shows (I.told input.old) (I.name input.new) (I.faults input.old) (I.faults input.new)
         (I.failed input.new) (I.got input.new) result }
     ensures begun { IfSome (words_request words.now)
         (λ asked. IsStarted result → IsLastBegun (I.told input.old) (I.name input.new) asked) }
     ensures last { IfSome (words_request words.now)
-        (λ asked. IsJudgedEnd result → I.name input.new ≡ Some (answer_of asked)) }
+        (λ asked. IsJudgedEnd result → I.name input.new ≡ Some (last_of asked)) }
     ensures write { result ≡ Status.Write → Rose (K.faults out.old) (K.faults out.new) }
     ensures untouched { IsSilent result → (K.taken out.new ≡ K.taken out.old) × (K.faults out.new ≡ K.faults out.old) }
 {
@@ -78,6 +89,7 @@ fn work<I: Input>(
     command: Command,
     input: &mut I,
 ) -> Result<(Status, Vec<u8>), Status>
+    requires small { HasSmallBudget command }
     ensures comes { IfOk result (λ x. IfSome (I.told input.old)
         (λ files. ComesTo files (request_of_command command) (x.0, x.1.items))) }
     ensures judged { IfOk result (λ x. IsVerdictEnd x.0) }
@@ -88,9 +100,13 @@ fn work<I: Input>(
     ensures shows { IfErr result (Shows (I.told input.old) (I.name input.new) (I.faults input.old) (I.faults input.new)
         (I.failed input.new) (I.got input.new)) }
     ensures begun { IsLastBegun (I.told input.old) (I.name input.new) (request_of_command command) }
-    ensures last { IfOk result (λ x. I.name input.new ≡ Some (answer_of (request_of_command command))) }
+    ensures last { IfOk result (λ x. I.name input.new ≡ Some (last_of (request_of_command command))) }
 {
     match command {
+        Command::Solve { graph, budget } => {
+            let read = read_one(alloc, input, graph)?;
+            Ok(searched(alloc, &read, budget)?)
+        }
         Command::Examine { answer } => {
             let text = read_file(alloc, input, answer)?;
             Ok(examined(alloc, &text)?)

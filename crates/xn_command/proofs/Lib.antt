@@ -1,5 +1,6 @@
 mod App
 mod Asked
+mod Nothing
 mod Parsed
 mod Refusals
 mod Budgets

@@ -1,5 +1,5 @@
 -- What the parser's promise for simple commands says of the words.
-use Rattle.std.proofs.Common.{◌≡◌, ◌∙◌, Bool, cond, true, false, ◌||◌, ◌<◌, ◌⊎◌, inl, inr, List, [], ◌∷◌, length, drop, map, Option, None, find, fold, option_map, slice_get, Result, Ok, Err, IfOk, refl, sym, ap, ap₂, subst, codes, string_bytes, String, true≢false, arith}
+use Rattle.std.proofs.Common.{◌≡◌, ◌∙◌, Bool, cond, true, false, ◌||◌, ◌⊎◌, inl, inr, List, [], ◌∷◌, drop, map, Option, None, find, fold, option_map, slice_get, Result, Ok, Err, IfOk, refl, sym, ap, subst, codes, string_bytes, String, true≢false, arith}
 use Rattle.std.specs.List.{list_all, list_any}
 use Rattle.std.specs.Option.{option_map_or}
 use Rattle.std.specs.declared.alloc.Global.{Global}
@@ -20,40 +20,15 @@ use Rattle.clap.proofs.FaultLemmas.{leaf_fault}
 use Rattle.clap.proofs.WalkLemmas.{first_value-rows}
 use Rattle.xn_command.specs.Items.{Item, after_name, budgets_of, is_dashed, is_useful, items_of, operands_of}
 use Rattle.xn_command.specs.Parsed.{Finds, ParsesWords}
-use Rattle.xn_command.specs.Request.{asked_by, request_by, request_of}
+use Rattle.xn_command.specs.Request.{request_by, request_of}
 use Rattle.xn_command.proofs.App.{app, built_is, budget_rule, command_rule, first_rule, rules, second_rule, shape, simple}
 use Rattle.xn_command.proofs.Budgets.{AreTexts}
+use Rattle.xn_command.proofs.Nothing.{dashed_is_none, few_ask_nothing, many_ask_nothing, nothing_by, twice_ask_nothing, unspelled_ask_nothing}
 use Rattle.xn_command.proofs.Rows.{Holds, is_row, row, value_of}
-use Rattle.xn_command.proofs.Steps.{last, or_else_assoc, run, state}
+use Rattle.xn_command.proofs.Steps.{last, or_else_assoc, or_false, run, state}
 use Rattle.xn_command.proofs.Walks.{Bad, comes}
 
 -- ---- what a broken rule means
-
-pub nothing_by : (items : List Item) → (a b : List Text) → operands_of items ≡ a → budgets_of items ≡ b → asked_by a b ≡ None → request_by items ≡ None
-nothing_by items a b operands budgets none = go (list_all is_useful items) (ap₂ asked_by operands budgets ∙ none)
-  where
-    go : (u : Bool) → asked_by (operands_of items) (budgets_of items) ≡ None → cond u (asked_by (operands_of items) (budgets_of items)) None ≡ None
-    go true e = e
-    go false e = refl
-
-pub many_ask_nothing : (operands budgets : List Text) → 3 < length operands → asked_by operands budgets ≡ None
-many_ask_nothing [] budgets many = absurd (omega arith)
-many_ask_nothing (c ∷ []) budgets many = absurd (omega arith)
-many_ask_nothing (c ∷ f ∷ []) budgets many = absurd (omega arith)
-many_ask_nothing (c ∷ f ∷ s ∷ []) budgets many = absurd (omega arith)
-many_ask_nothing (c ∷ f ∷ s ∷ x ∷ more) budgets many = refl
-
-pub budgets_ask_nothing : (operands : List Text) (b : Text) (more : List Text) → asked_by operands (b ∷ more) ≡ None
-budgets_ask_nothing [] b more = refl
-budgets_ask_nothing (c ∷ []) b more = refl
-budgets_ask_nothing (c ∷ f ∷ []) b more = refl
-budgets_ask_nothing (c ∷ f ∷ s ∷ []) b more = refl
-budgets_ask_nothing (c ∷ f ∷ s ∷ x ∷ others) b more = refl
-
-pub few_ask_nothing : (operands budgets : List Text) → length operands < 2 → asked_by operands budgets ≡ None
-few_ask_nothing [] budgets few = refl
-few_ask_nothing (c ∷ []) budgets few = refl
-few_ask_nothing (c ∷ f ∷ more) budgets few = absurd (omega arith)
 
 bad_asks_nothing : (items : List Item) → Bad (operands_of items) (budgets_of items) (list_all is_useful items) → request_by items ≡ None
 bad_asks_nothing items bad = elim bad [
@@ -61,15 +36,17 @@ bad_asks_nothing items bad = elim bad [
   | inr wrong ↦ elim wrong [
     | inl many ↦ nothing_by items (operands_of items) (budgets_of items) refl refl (many_ask_nothing (operands_of items) (budgets_of items) many)
     | inr budgets ↦ elim budgets [
-      | inl twice ↦ given (budgets_of items) refl (inl twice)
-      | inr dashed ↦ given (budgets_of items) refl (inr dashed)
+      | inl twice ↦ nothing_by items (operands_of items) (budgets_of items) refl refl (twice_ask_nothing (operands_of items) (budgets_of items) twice)
+      | inr dashed ↦ given (budgets_of items) refl dashed
     ]
   ]
 ]
   where
-    given : (b : List Text) → budgets_of items ≡ b → (1 < length b) ⊎ (list_any is_dashed b ≡ true) → request_by items ≡ None
-    given [] e wrong = elim wrong [ inl twice ↦ absurd (omega arith) | inr dashed ↦ absurd (true≢false (sym dashed)) ]
-    given (b ∷ more) e wrong = nothing_by items (operands_of items) (b ∷ more) refl e (budgets_ask_nothing (operands_of items) b more)
+    given : (budgets : List Text) → budgets_of items ≡ budgets → list_any is_dashed budgets ≡ true → request_by items ≡ None
+    given [] e dashed = absurd (true≢false (sym dashed))
+    given (b ∷ []) e dashed =
+        nothing_by items (operands_of items) (b ∷ []) refl e (unspelled_ask_nothing (operands_of items) b [] (dashed_is_none b (sym (or_false (is_dashed b)) ∙ dashed)))
+    given (a ∷ b ∷ more) e dashed = nothing_by items (operands_of items) (a ∷ b ∷ more) refl e (twice_ask_nothing (operands_of items) (a ∷ b ∷ more) (omega arith))
 
 -- ---- what the parser asks behind the last word
 

@@ -1,18 +1,26 @@
 -- What is answered to a list of words.
-use Rattle.std.specs.Prelude.{◌≡◌, List, map, String, Option, Some, None, Result, Ok, Err}
+use Rattle.std.specs.Prelude.{◌≡◌, ◌≤◌, ⊤, List, map, String, Option, Some, None, Result, Ok, Err}
 use Rattle.std.specs.String.{string_bytes}
 use Rattle.std.specs.declared.alloc.Global.{Global}
 use Rattle.xn_command.specs.declared.command.Command as out
-use Rattle.xn_command.specs.declared.command.Command.TheVariants.{Check, Examine, Draw}
+use Rattle.xn_command.specs.declared.command.Command.TheVariants.{Check, Draw, Examine, Solve}
 use Rattle.xn_command.specs.declared.command.WordsErr.{WordsErr}
 use Rattle.xn_command.specs.declared.command.WordsErr.TheVariants.{Refused, Memory}
-use Rattle.xn_command.specs.Request.{Request, check, draw, examine, request_of}
+use Rattle.xn_command.specs.Request.{Request, check, draw, examine, most_budget, request_of, solve}
 
 -- what a command asks for
 abbrev pub request_of_command : out.Command → Request
+request_of_command (Solve graph budget) = solve (string_bytes graph) budget
 request_of_command (Check graph answer) = check (string_bytes graph) (string_bytes answer)
 request_of_command (Examine answer) = examine (string_bytes answer)
 request_of_command (Draw graph answer) = draw (string_bytes graph) (string_bytes answer)
+
+-- the budget of a command is no more than the greatest
+abbrev pub HasSmallBudget : out.Command → Type 0
+HasSmallBudget (Solve graph budget) = budget ≤ most_budget
+HasSmallBudget (Check graph answer) = ⊤
+HasSmallBudget (Examine answer) = ⊤
+HasSmallBudget (Draw graph answer) = ⊤
 
 -- what words ask for, of which the first is the program's name
 abbrev pub words_request : List (String Global) → Option Request

@@ -1,7 +1,7 @@
 -- Why words ask for nothing, refusal by refusal.
 use Rattle.std.specs.Prelude.{◌≡◌, ◌↔◌, ◌<◌, ◌⊎◌, ℕ, List, Some, None, Contains, codes, length, slice_get}
 use Rattle.xn_command.specs.Items.{Item, after_name, budgets_of, items_of, operands_of, stray, unvalued}
-use Rattle.xn_command.specs.Request.{request_of}
+use Rattle.xn_command.specs.Request.{budget_of, request_of}
 
 -- the command is the first operand
 abbrev pub HasCommand : List Item → List ℕ → Type 0
@@ -11,9 +11,17 @@ HasCommand items command = slice_get (operands_of items) 0 ≡ Some command
 abbrev pub TakesTwo : List Item → Type 0
 TakesTwo items = HasCommand items (codes "check") ⊎ HasCommand items (codes "draw")
 
--- a command that takes an answer
+-- commands that take one file
 abbrev pub TakesOne : List Item → Type 0
-TakesOne items = HasCommand items (codes "examine")
+TakesOne items = HasCommand items (codes "solve") ⊎ HasCommand items (codes "examine")
+
+-- commands that take no budget
+abbrev pub TakesNoBudget : List Item → Type 0
+TakesNoBudget items = HasCommand items (codes "examine") ⊎ TakesTwo items
+
+-- the value of the first budget is this word
+abbrev pub HasBudgetWord : List Item → List ℕ → Type 0
+HasBudgetWord items word = slice_get (budgets_of items) 0 ≡ Some word
 
 -- what is wrong with words that are these items
 pub data IsRefused (items : List Item) : Type 0 where
@@ -33,7 +41,9 @@ pub data IsRefused (items : List Item) : Type 0 where
   -- or it is missing
   second_missing : TakesTwo items → length (operands_of items) ≡ 2 → IsRefused items
   -- a budget is given to a command that takes none
-  budget_given : TakesOne items ⊎ TakesTwo items → 0 < length (budgets_of items) → IsRefused items
+  budget_given : TakesNoBudget items → 0 < length (budgets_of items) → IsRefused items
+  -- a budget isn't a number from 0 to 200,000
+  no_budget : (word : List ℕ) → HasBudgetWord items word → budget_of word ≡ None → IsRefused items
 
 -- words ask for nothing exactly where one of these is wrong with them
 abbrev pub RefusedExactly : Type 0

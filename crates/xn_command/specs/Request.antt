@@ -1,11 +1,16 @@
 -- What a list of words asks for.
-use Rattle.std.specs.Prelude.{ℕ, List, [], ◌∷◌, Option, Some, None, if◌then◌else◌, codes}
+use Rattle.std.specs.Prelude.{ℕ, List, [], ◌∷◌, Option, Some, None, if◌then◌else◌, codes, nat_le, ◌^◌}
 use Rattle.std.specs.List.{list_all}
 use Rattle.std.specs.Str.{bytes_eq}
+use Rattle.xn_text.specs.Number.{word_number}
+use Rattle.xn_text.specs.declared.numbers.WordNumber.{WordNumber}
+use Rattle.xn_text.specs.declared.numbers.WordNumber.TheVariants.{Is, Large, Not}
 use Rattle.xn_command.specs.Items.{Item, after_name, budgets_of, is_useful, items_of, operands_of}
 
 -- what is asked for, with the names of the files
 pub data Request : Type 0 where
+  -- to search a graph, with so many tree nodes at most
+  solve : List ℕ → ℕ → Request
   -- to judge an answer for a graph
   check : List ℕ → List ℕ → Request
   -- to test the drawing of an answer
@@ -13,9 +18,37 @@ pub data Request : Type 0 where
   -- to show the drawing of an answer for a graph
   draw : List ℕ → List ℕ → Request
 
+-- the budget where none is given, and the greatest
+abbrev pub usual_budget : ℕ
+usual_budget = 10000
+
+abbrev pub most_budget : ℕ
+most_budget = 200000
+
+-- a number that is a budget
+abbrev pub budget_from : WordNumber → Option ℕ
+budget_from (Is n) = if nat_le n most_budget then Some n else None
+budget_from Large = None
+budget_from Not = None
+
+-- the budget that a word spells, from 0 to 200,000
+abbrev pub budget_of : List ℕ → Option ℕ
+budget_of word = budget_from (word_number (2 ^ 64) word)
+
+-- to search this graph, where there is a budget
+abbrev pub solved_by : List ℕ → Option ℕ → Option Request
+solved_by graph None = None
+solved_by graph (Some budget) = Some (solve graph budget)
+
 -- what a command asks for with one operand after it
 abbrev pub with_one : List ℕ → List ℕ → Option Request
-with_one command first = if bytes_eq command (codes "examine") then Some (examine first) else None
+with_one command first =
+    if bytes_eq command (codes "solve") then Some (solve first usual_budget)
+    else if bytes_eq command (codes "examine") then Some (examine first) else None
+
+-- what a command asks for with one operand after it and a budget
+abbrev pub with_budget : List ℕ → List ℕ → List ℕ → Option Request
+with_budget command first budget = if bytes_eq command (codes "solve") then solved_by first (budget_of budget) else None
 
 -- what a command asks for with two operands after it
 abbrev pub with_two : List ℕ → List ℕ → List ℕ → Option Request
@@ -23,9 +56,10 @@ with_two command first second =
     if bytes_eq command (codes "check") then Some (check first second)
     else if bytes_eq command (codes "draw") then Some (draw first second) else None
 
--- what operands and budgets ask for: a command that has one of these numbers of operands, and no budget
+-- what operands and budgets ask for: a command that has one of these numbers of operands, and a budget only where one is taken
 abbrev pub asked_by : List (List ℕ) → List (List ℕ) → Option Request
 asked_by (command ∷ first ∷ []) [] = with_one command first
+asked_by (command ∷ first ∷ []) (budget ∷ []) = with_budget command first budget
 asked_by (command ∷ first ∷ second ∷ []) [] = with_two command first second
 asked_by operands budgets = None
 

@@ -1,17 +1,30 @@
 // The command of the words.
-ghost use Rattle.std.specs.Prelude.{◌≡◌};
-ghost use Rattle.xn_command.specs.Gives.{GivesCommand, GivesRequest};
-ghost use Rattle.xn_command.specs.Request.{with_one, with_two};
+ghost use Rattle.std.specs.Prelude.{◌≡◌, ◌≤◌, IfOk, IfSome, Some};
+ghost use Rattle.xn_command.specs.Gives.{GivesCommand, GivesRequest, HasSmallBudget};
+ghost use Rattle.xn_command.specs.Request.{budget_of, most_budget, solve, with_budget, with_one, with_two};
 ghost use Rattle.xn_command.specs.declared.command.WordsErr.TheVariants.{Memory};
 
 use crate::parse::parse;
 use clap::error::ErrorKind;
 use std::alloc::{AllocError, Global};
 use thiserror::Error;
+use xn_text::{WordNumber, word_u64};
+
+// The budget where none is given, and the greatest.
+const USUAL_BUDGET: u64 = 10_000;
+
+const MOST_BUDGET: u64 = 200_000;
 
 /// What the program is asked to do, with the names of the files.
 #[derive(Debug, Drop)]
 pub enum Command {
+    /// Searches for a drawing of the graph with the fewest crossings, and for a proof that there are no fewer.
+    Solve {
+        /// The name of the graph's file.
+        graph: String,
+        /// How many tree nodes may be opened, at most 200,000.
+        budget: u64,
+    },
     /// Tests everything that the answer says of the graph.
     Check {
         /// The name of the graph's file.
@@ -56,33 +69,72 @@ impl From<AllocError> for WordsErr {
 ///
 /// Words that ask for nothing are `Refused`. A request for help or for the version is one of them.
 pub fn read_words(alloc: Global, words: &[String]) -> Result<Command, WordsErr>
-    ensures { GivesCommand words.now result }
+    ensures gives { GivesCommand words.now result }
+    ensures small { IfOk result HasSmallBudget }
 {
     let matches = match parse(alloc, words) {
         Ok(matches) => matches,
         Err(error) if error.kind() == ErrorKind::OutOfMemory => return Err(WordsErr::Memory),
         Err(_) => return Err(WordsErr::Refused),
     };
-    if matches.get_str("budget").is_some() {
-        return Err(WordsErr::Refused);
-    }
     let Some(command) = matches.get_str("command") else {
         return Err(WordsErr::Refused);
     };
     let Some(first) = matches.get_str("first") else {
         return Err(WordsErr::Refused);
     };
-    match matches.get_str("second") {
-        Some(second) => with_two(alloc, command, first, second),
-        None => with_one(alloc, command, first),
+    match (matches.get_str("second"), matches.get_str("budget")) {
+        (None, None) => with_one(alloc, command, first),
+        (None, Some(word)) => with_budget(alloc, command, first, word),
+        (Some(second), None) => with_two(alloc, command, first, second),
+        (Some(_), Some(_)) => Err(WordsErr::Refused),
     }
+}
+
+// The command with one operand after it, and a budget.
+fn with_budget(alloc: Global, command: &str, first: &str, word: &str) -> Result<Command, WordsErr>
+    ensures gives { GivesRequest (with_budget command.now first.now word.now) result }
+    ensures small { IfOk result HasSmallBudget }
+{
+    match command {
+        "solve" => match budget_in(word) {
+            Some(budget) => solve_within(alloc, first, budget),
+            None => Err(WordsErr::Refused),
+        },
+        _ => Err(WordsErr::Refused),
+    }
+}
+
+// The budget that a word spells, if it is one that may be given.
+fn budget_in(word: &str) -> Option<u64>
+    ensures is { result ≡ budget_of word.now }
+    ensures small { IfSome result (λ n. n ≤ most_budget) }
+{
+    match word_u64(word.as_bytes()) {
+        WordNumber::Is(budget) if budget <= MOST_BUDGET => Some(budget),
+        _ => None,
+    }
+}
+
+// The command that solves a graph within a budget.
+fn solve_within(alloc: Global, graph: &str, budget: u64) -> Result<Command, WordsErr>
+    requires { budget ≤ most_budget }
+    ensures gives { GivesRequest (Some (solve graph.now budget)) result }
+    ensures small { IfOk result HasSmallBudget }
+{
+    Ok(Command::Solve {
+        graph: String::from_str(alloc, graph)?,
+        budget,
+    })
 }
 
 // The command with one operand after it.
 fn with_one(alloc: Global, command: &str, first: &str) -> Result<Command, WordsErr>
-    ensures { GivesRequest (with_one command.now first.now) result }
+    ensures gives { GivesRequest (with_one command.now first.now) result }
+    ensures small { IfOk result HasSmallBudget }
 {
     match command {
+        "solve" => solve_within(alloc, first, USUAL_BUDGET),
         "examine" => Ok(Command::Examine {
             answer: String::from_str(alloc, first)?,
         }),
@@ -92,7 +144,8 @@ fn with_one(alloc: Global, command: &str, first: &str) -> Result<Command, WordsE
 
 // The command with two operands after it.
 fn with_two(alloc: Global, command: &str, first: &str, second: &str) -> Result<Command, WordsErr>
-    ensures { GivesRequest (with_two command.now first.now second.now) result }
+    ensures gives { GivesRequest (with_two command.now first.now second.now) result }
+    ensures small { IfOk result HasSmallBudget }
 {
     match command {
         "check" => Ok(Command::Check {

@@ -9,6 +9,7 @@ fn asked(alloc: Global, line: &str) -> Result<String, Fail> {
         words.push(String::from_str(alloc, word)?)?;
     }
     let shown = match read_words(alloc, &words) {
+        Ok(Command::Solve { graph, budget }) => format!(in alloc; "solve {graph} {budget}")?,
         Ok(Command::Check { graph, answer }) => format!(in alloc; "check {graph} {answer}")?,
         Ok(Command::Examine { answer }) => format!(in alloc; "examine {answer}")?,
         Ok(Command::Draw { graph, answer }) => format!(in alloc; "draw {graph} {answer}")?,
@@ -42,6 +43,20 @@ fn commands_are_read(rt: HostRuntime) -> Result<(), Fail> {
 }
 
 #[test]
+fn budgets_are_read(rt: HostRuntime) -> Result<(), Fail> {
+    let alloc = rt.alloc();
+    assert!(rt; asks(alloc, "xnum solve a", "solve a 10000")?);
+    assert!(rt; asks(alloc, "xnum -- solve a", "solve a 10000")?);
+    assert!(rt; asks(alloc, "xnum solve -- --budget", "solve --budget 10000")?);
+    assert!(rt; asks(alloc, "xnum --budget=5 solve a", "solve a 5")?);
+    assert!(rt; asks(alloc, "xnum solve --budget 300 a", "solve a 300")?);
+    assert!(rt; asks(alloc, "xnum solve a --budget 0", "solve a 0")?);
+    assert!(rt; asks(alloc, "xnum solve a --budget 200000", "solve a 200000")?);
+    assert!(rt; asks(alloc, "xnum --budget 7 -- solve -x", "solve -x 7")?);
+    Ok(())
+}
+
+#[test]
 fn words_that_name_no_command_are_refused(rt: HostRuntime) -> Result<(), Fail> {
     let alloc = rt.alloc();
     assert!(rt; is_refused(alloc, "xnum")?);
@@ -58,18 +73,39 @@ fn words_that_name_no_command_are_refused(rt: HostRuntime) -> Result<(), Fail> {
 }
 
 #[test]
-fn options_are_refused(rt: HostRuntime) -> Result<(), Fail> {
+fn words_that_are_no_budget_are_refused(rt: HostRuntime) -> Result<(), Fail> {
     let alloc = rt.alloc();
     assert!(rt; is_refused(alloc, "xnum solve a --budget 200001")?);
+    assert!(rt; is_refused(alloc, "xnum solve a --budget 18446744073709551616")?);
     assert!(rt; is_refused(alloc, "xnum solve a --budget 07")?);
-    assert!(rt; is_refused(alloc, "xnum draw a b --budget 1")?);
-    assert!(rt; is_refused(alloc, "xnum solve a -x")?);
-    assert!(rt; is_refused(alloc, "xnum solve a --budget 1 --budget 1")?);
+    assert!(rt; is_refused(alloc, "xnum solve a --budget +7")?);
+    assert!(rt; is_refused(alloc, "xnum solve a --budget -7")?);
+    assert!(rt; is_refused(alloc, "xnum solve a --budget=-7")?);
+    assert!(rt; is_refused(alloc, "xnum solve a --budget -")?);
+    assert!(rt; is_refused(alloc, "xnum solve a --budget=")?);
+    assert!(rt; is_refused(alloc, "xnum --budget -- solve a")?);
+    Ok(())
+}
+
+#[test]
+fn budgets_that_stand_wrong_are_refused(rt: HostRuntime) -> Result<(), Fail> {
+    let alloc = rt.alloc();
     assert!(rt; is_refused(alloc, "xnum solve a --budget")?);
+    assert!(rt; is_refused(alloc, "xnum solve a --budget 1 --budget 1")?);
+    assert!(rt; is_refused(alloc, "xnum solve -- a --budget 1")?);
+    assert!(rt; is_refused(alloc, "xnum solve a b --budget 1")?);
+    assert!(rt; is_refused(alloc, "xnum draw a b --budget 1")?);
+    assert!(rt; is_refused(alloc, "xnum check a b --budget 1")?);
     assert!(rt; is_refused(alloc, "xnum --budget=5 examine a")?);
-    assert!(rt; is_refused(alloc, "xnum --budget= examine a")?);
-    assert!(rt; is_refused(alloc, "xnum --budget -- examine a")?);
-    assert!(rt; is_refused(alloc, "xnum --bud 5 examine a")?);
+    assert!(rt; is_refused(alloc, "xnum --budget=5 cross a")?);
+    assert!(rt; is_refused(alloc, "xnum --bud 5 solve a")?);
+    Ok(())
+}
+
+#[test]
+fn other_options_are_refused(rt: HostRuntime) -> Result<(), Fail> {
+    let alloc = rt.alloc();
+    assert!(rt; is_refused(alloc, "xnum solve a -x")?);
     assert!(rt; is_refused(alloc, "xnum examine --")?);
     assert!(rt; is_refused(alloc, "xnum examine -x")?);
     assert!(rt; is_refused(alloc, "xnum examine -1")?);

@@ -15,6 +15,8 @@ returns-clause-exits g c =
         bounds = top.bounds;
         drawing = top.drawing;
         shown = top.shown;
+        number = top.number;
+        undecided = top.undecided;
         shows = top.shows;
         begun = top.begun;
         last = top.last;
@@ -29,3 +31,8 @@ pub returns-clause-bounds : goal.returns-clause-bounds
 returns-clause-bounds g c =
     λ graph answer asks zero.
     c.top-end.ensures.bounds graph answer asks (zero_is_done c.top-end.result (sym zero ∙ c.tell.ensures.code))
+
+pub returns-clause-number : goal.returns-clause-number
+returns-clause-number g c =
+    λ graph budget asks zero.
+    c.top-end.ensures.number graph budget asks (zero_is_done c.top-end.result (sym zero ∙ c.tell.ensures.code))
