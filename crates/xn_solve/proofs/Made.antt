@@ -1,7 +1,9 @@
 -- The answer made of what was found proves what it says.
-use Rattle.std.proofs.Common.{◌≡◌, ℕ, ◌<◌, ◌≤◌, ◌^◌, refl, sym, subst, arith}
-use Rattle.xn_model.specs.Drawing.{IsAtLeast, IsAtMost, order_of}
-use Rattle.xn_model.specs.Graph.{Graph}
+use Rattle.std.proofs.Common.{◌≡◌, ℕ, ◌<◌, ◌≤◌, ◌^◌, inl, inr, refl, sym, subst, arith}
+use Rattle.std.proofs.lemmas.Bool.{cases_lt}
+use Rattle.xn_model.specs.Drawing.{order_of}
+use Rattle.xn_model.specs.Graph.{Graph, pair_count_of}
+use Rattle.xn_model.specs.Limit.{node_limit}
 use Rattle.xn_model.specs.Lists.{at}
 use Rattle.xn_graph.specs.Limits.{IsLimitedGraph}
 use Rattle.xn_kinds.specs.declared.answers.Answer.{Answer}
@@ -9,7 +11,10 @@ use Rattle.xn_sound.specs.Laws.{AcceptedProofsBound}
 use Rattle.xn_search.specs.Solved.{IsSolved, crossings_of}
 use Rattle.xn_search.specs.declared.solved.Solved.{Solved}
 use Rattle.xn_answers.specs.Proved.{IsLimitedAnswer, IsProved, ProvedAnswersAreWellFormed}
-use Rattle.xn_solve.specs.Answers.{HasWellFormedAnswers, answer_made}
+use Rattle.xn_solve.specs.Answers.{Bounds, DecidesFromLimit, HasWellFormedAnswers, answer_made}
+
+not_below : (a b : ℕ) → a < b → b ≤ a → ⊥
+not_below a b below above = omega (arith, below, above)
 
 -- with any graph and any upper bound in it
 abbrev answer_with : Graph → ℕ → ℕ → ℕ → Solved → Answer
@@ -41,9 +46,21 @@ module _ (g : Graph) (budget : ℕ) (r : Solved) (limited : IsLimitedGraph g) (s
   pub made_well_formed : ProvedAnswersAreWellFormed → HasWellFormedAnswers g budget r
   made_well_formed proved loops loops_small = proved (answer_made g loops budget r) (made_is_limited loops loops_small) (made_is_proved loops)
 
-  -- the two bounds are those of the crossing number
-  pub bounds_both : AcceptedProofsBound → IsAtLeast g r.lower × IsAtMost g (crossings_of g r)
+  pub bounds_both : AcceptedProofsBound → Bounds g r
   bounds_both bound = (
     bound g r.lower r.rows r.tree limited.is_graph solved.accepted,
     (crossings_of g r, (order_of g r.drawing.orders, at r.drawing.next, solved.drawing.drawing, refl), omega arith),
   )
+
+  pub decides_from_limit : AcceptedProofsBound → DecidesFromLimit g budget r
+  decides_from_limit bound k is limit =
+      let least = is.at_most in
+      let low : r.lower ≤ k = omega (arith, (bounds_both bound).0 least.0 least.1, least.2) in
+      let high : k ≤ crossings_of g r = is.least (crossings_of g r) (order_of g r.drawing.orders, at r.drawing.next, solved.drawing.drawing, refl) in
+      let has_k : least.0 ≡ k = omega (arith, is.least least.0 least.1, least.2) in
+      elim (cases_lt r.lower (crossings_of g r)) [
+        | inl less ↦
+            let below = subst (λ c. budget < node_limit (pair_count_of g) c) has_k ((solved.undecided less).1 least.0 least.1) in
+            absurd (not_below budget (node_limit (pair_count_of g) k) below limit)
+        | inr met ↦ (omega (arith, low, high, met), omega (arith, low, high, met))
+      ]

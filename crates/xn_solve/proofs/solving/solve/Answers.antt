@@ -1,9 +1,14 @@
-use Rattle.xn_solve.proofs.Made.{bounds_both, made_well_formed}
+use Rattle.xn_solve.proofs.Made.{bounds_both, decides_from_limit, made_well_formed}
 use Rattle.xn_solve.proofs.solving.solve.Goals as goal
 
 pub returns-clause-bounds : goal.returns-clause-bounds
 returns-clause-bounds c =
     bounds_both c.args.graph.now c.args.budget c.in_ok-solved.solved c.nodes-nodes.ensures.limited c.requires c.in_ok-solved.ensures.solved
+    c.accepted_proofs.ensures
+
+pub returns-clause-complete : goal.returns-clause-complete
+returns-clause-complete c =
+    decides_from_limit c.args.graph.now c.args.budget c.in_ok-solved.solved c.nodes-nodes.ensures.limited c.requires c.in_ok-solved.ensures.solved
     c.accepted_proofs.ensures
 
 pub returns-clause-flat : goal.returns-clause-flat
