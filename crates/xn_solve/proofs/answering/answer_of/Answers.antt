@@ -1,4 +1,4 @@
-use Rattle.std.proofs.Common.{◌≡◌, ◌<◌, ◌^◌, ◌∙◌, arith}
+use Rattle.std.proofs.Common.{◌<◌, ◌^◌, arith}
 use Rattle.std.specs.Prelude.{Ok}
 use Rattle.xn_kinds.specs.declared.answers.Answer.{Answer}
 use Rattle.xn_proof.specs.Spelling.{text_of}
