@@ -1,0 +1,5 @@
+mod Crossers
+mod Crossless
+mod Formed
+mod Shown
+mod Trees
