@@ -1,9 +1,12 @@
-//! Edges that touch, that cross, and both.
+//! Edges that touch, that cross, and both; and a simple drawing.
 use super::*;
 use std::alloc::{AllocError, Global};
 use std::test::Fail;
+use xn_draw::examine;
 use xn_graph::Graph;
+use xn_insert::Loose;
 use xn_kinds::{Drawing, Orders};
+use xn_list::Sequence;
 use xn_map::Map;
 use xn_orders::{orders_flaw, planarise};
 
@@ -67,6 +70,26 @@ fn untouched(
     }
 }
 
+/// What a drawing with these lists and turns comes to, which is taken as a loose one.
+fn simplified(
+    alloc: Global,
+    nodes: u32,
+    ends: &[(u32, u32)],
+    pairs: &[(u32, u32)],
+    turns: &[u32],
+) -> Result<Drawing, Fail> {
+    let graph = Graph::make(nodes, Vec::from_slice(alloc, ends)?)?;
+    let orders = orders(alloc, graph.edges(), pairs)?;
+    let next = Sequence::new(Vec::from_slice(alloc, turns)?);
+    let drawing = Drawing { orders, next };
+    examine(alloc, &graph, &drawing)?;
+    let edges = graph.all_edges(alloc)?;
+    let web = planarise(alloc, &graph, &edges, &drawing.orders)?;
+    let map = Map::make(alloc, web, drawing.next.as_slice())?;
+    let loose = Loose::start(alloc, &graph, &edges, &drawing.orders, map)?;
+    Ok(simplify(alloc, &graph, loose)?)
+}
+
 /// Whether a drawing has these lists, each pair an edge and the next in its list, and these turns.
 fn is(
     alloc: Global,
@@ -113,5 +136,12 @@ fn an_edge_that_touches_one_and_crosses_another(rt: HostRuntime) -> Result<(), F
     let drawing = untouched(rt.alloc(), 6, &ends, &pairs, &turns)?;
     let left = [0, 7, 8, 3, 4, 5, 6, 2, 1, 9];
     assert!(rt; is(rt.alloc(), &drawing, &[(0, 2), (2, 0)], &left)?);
+    Ok(())
+}
+
+#[test]
+fn a_simple_drawing_stays(rt: HostRuntime) -> Result<(), Fail> {
+    let drawing = simplified(rt.alloc(), 5, &K5, &[(0, 9), (9, 0)], &K5_TURNS)?;
+    assert!(rt; is(rt.alloc(), &drawing, &[(0, 9), (9, 0)], &K5_TURNS)?);
     Ok(())
 }
