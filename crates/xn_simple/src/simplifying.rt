@@ -32,7 +32,7 @@ pub fn simplify(alloc: Global, graph: &Graph, loose: Loose) -> Result<Drawing, A
     tangle.drawing(alloc, graph.edges())
 }
 
-// The tangle of a loose drawing: walks may cross at each further node.
+/// The tangle of a loose drawing: walks may cross at each further node.
 pub fn tangle_of(alloc: Global, graph: &Graph, map: Map, walks: Walks) -> Result<Tangle, AllocError>
     requires { IsLooseOf graph.now (loose_of graph.now.nodes map walks) }
     ensures { IfOk result (λ t. IsTangleOf graph.now map (edges_in (loose_of graph.now.nodes map walks)) (lists_in t)) }
