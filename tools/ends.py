@@ -19,7 +19,7 @@ FILES = {
     "nodes.gml": "graph [ " + "".join(f"node [ id {i} ] " for i in range(1001)) + "]",
     "edges.gml": "graph [ node [ id 0 ] node [ id 1 ] " + "edge [ source 0 target 1 ] " * 1001 + "]",
 }
-# the words, the status, standard output, standard error
+# the words, the status, standard output (its first line, where an answer is written), standard error
 ENDS = [
     ("examine k4.answer", 0, K4, ""),
     ("check k5.gml k4.answer", 1, "refused 2 size-differs\n", ""),
@@ -28,6 +28,7 @@ ENDS = [
     ("check none.gml k4.answer", 3, "", "xnum: graph text refused: no graph\n"),
     ("check nodes.gml k4.answer", 4, "", "xnum: more than 1000 nodes\n"),
     ("check edges.gml k4.answer", 4, "", "xnum: more than 1000 edges\n"),
+    ("solve k5.gml --budget 0", 5, "crossing-answer 1\n", ""),
     ("examine missing", 6, "", "xnum: a read failed\n"),
     ("examine k4.answer", 7, None, "xnum: a write failed\n"),
     ("examine long", 8, "", "xnum: no memory\n"),
@@ -43,7 +44,10 @@ def ended(program, folder, words, status, written):
     out = subprocess.PIPE if written is not None else open("/dev/full", "w")
     few = limit if status == 8 else None
     child = subprocess.run([program, *words.split()], cwd=folder, stdout=out, stderr=subprocess.PIPE, text=True, preexec_fn=few)
-    return child.returncode, child.stdout, child.stderr
+    wrote = child.stdout
+    if words.startswith("solve") and wrote:
+        wrote = wrote.partition("\n")[0] + "\n"
+    return child.returncode, wrote, child.stderr
 
 
 def main():
