@@ -1,14 +1,19 @@
 use super::texts::{K5, K5_GRAPH};
 use super::*;
 
-// What `check` of K5 writes, and with which code it ends, where the call of the input with this number fails, if one
+const CHECK: &str = "xnum check graph answer";
+
+const SOLVE: &str = "xnum solve graph --budget 300";
+
+// What a command on K5 writes, and with which code it ends, where the call of the input with this number fails, if one
 // does, and the write with that one.
-fn checked_with(
+fn ended_with(
     alloc: Global,
+    line: &str,
     read: Option<u64>,
     write: Option<u64>,
 ) -> Result<(String, u8), Fail> {
-    let words = words_of(alloc, "xnum check graph answer")?;
+    let words = words_of(alloc, line)?;
     let mut reads = Vec::new(alloc);
     reads.extend(read)?;
     let mut writes = Vec::new(alloc);
@@ -22,8 +27,11 @@ fn checked_with(
 
 #[test]
 fn a_failed_write_leaves_a_part(rt: HostRuntime) -> Result<(), Fail> {
-    let (written, code) = checked_with(rt.alloc(), None, Some(2))?;
+    let (written, code) = ended_with(rt.alloc(), CHECK, None, Some(2))?;
     assert_eq!(rt; written.as_str(), "accepted 1");
+    assert_eq!(rt; code, 7);
+    let (written, code) = ended_with(rt.alloc(), SOLVE, None, Some(2))?;
+    assert_eq!(rt; written.as_str(), "crossing-a");
     assert_eq!(rt; code, 7);
     Ok(())
 }
@@ -31,7 +39,12 @@ fn a_failed_write_leaves_a_part(rt: HostRuntime) -> Result<(), Fail> {
 #[test]
 fn a_failed_read_writes_nothing(rt: HostRuntime) -> Result<(), Fail> {
     for call in [0, 2, 7] {
-        let (written, code) = checked_with(rt.alloc(), Some(call), None)?;
+        let (written, code) = ended_with(rt.alloc(), CHECK, Some(call), None)?;
+        assert_eq!(rt; written.as_str(), "");
+        assert_eq!(rt; code, 6);
+    }
+    for call in [0, 2] {
+        let (written, code) = ended_with(rt.alloc(), SOLVE, Some(call), None)?;
         assert_eq!(rt; written.as_str(), "");
         assert_eq!(rt; code, 6);
     }

@@ -1,4 +1,4 @@
-use super::texts::{K5_GRAPH, K33_GRAPH};
+use super::texts::{K5_CUT_GRAPH, K5_GRAPH, K33_GRAPH};
 use super::*;
 
 /// The graph K4.
@@ -66,7 +66,10 @@ fn graphs_with_one_crossing_are_solved(rt: HostRuntime) -> Result<(), Fail> {
     let alloc = rt.alloc();
     let line = "xnum solve graph --budget 300";
     assert!(rt; solves_so(alloc, line, K5_GRAPH, 0, "accepted 1 1\n")?);
+    let line = "xnum solve graph --budget 82208";
+    assert!(rt; solves_so(alloc, line, K5_GRAPH, 0, "accepted 1 1\n")?);
     assert!(rt; solves_so(alloc, "xnum solve graph", K33_GRAPH, 0, "accepted 1 1\n")?);
+    assert!(rt; solves_so(alloc, "xnum solve graph", K5_CUT_GRAPH, 0, "accepted 1 1\n")?);
     Ok(())
 }
 
