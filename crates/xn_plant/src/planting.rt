@@ -97,7 +97,7 @@ pub fn plant<P: Planes>(
     }
 }
 
-// A row over the edges that the evidence of a row uses, or the row itself.
+// A row over the edges that the evidence of a row uses, or the row itself, where it uses all of them.
 fn shrunk<P: Planes>(
     alloc: Global,
     graph: &Graph,
@@ -111,6 +111,9 @@ fn shrunk<P: Planes>(
     ensures { IfOk result (IsRowOfState graph.now (state_of given.now)) }
 {
     let edges = used_edges(alloc, &row)?;
+    if edges.len() == row.edges.len() {
+        return Ok(row);
+    }
     match try_edges(alloc, graph, given, edges, planes)? {
         Tried::Flat(_, _) => Ok(row),
         Tried::Excluded(smaller) => Ok(smaller),
