@@ -7,6 +7,8 @@ pub mod Marks
 pub mod Orbits
 pub mod Renumbering
 pub mod Restriction
+pub mod Seen
+pub mod Sharing
 pub mod Skipping
 pub mod Splice
 pub mod SplitRing

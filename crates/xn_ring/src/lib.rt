@@ -9,6 +9,7 @@ ghost use Rattle.xn_model.specs.Permutation.{IsSplice, Permutes};
 use std::alloc::{AllocError, Global};
 use std::marker::Model;
 
+mod cells;
 pub mod laws;
 
 /// Darts in rings: a permutation of the darts below `len`, seen as the list of their successors.

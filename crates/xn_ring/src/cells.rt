@@ -1,0 +1,118 @@
+//! The cells of the darts, in raw blocks that never move.
+ghost use Rattle.std.specs.Prelude.{◌≡◌, ℕ, ◌+◌, ◌*◌, ◌^◌, ◌<◌, ◌≤◌, ◌++◌, List, [], ◌∷◌, length, swap};
+ghost use Rattle.std.specs.List.{range_with_len};
+ghost use denote.RawPtr.{Ptr, ◌+ₚ◌};
+ghost use Rattle.xn_model.specs.Lists.{at};
+ghost use Rattle.xn_ring.specs.Rings.{AreInverse};
+ghost use Rattle.xn_ring.specs.Cells.{place};
+ghost use Rattle.xn_ring.specs.Ownership.{cells_own, cells_lent};
+
+use std::alloc::{AllocError, Global};
+use std::marker::{Model, PhantomData};
+
+/// The cells of one block.
+pub(crate) const CELLS: u32 = 1024;
+
+/// A dart: its own number, and where the next and the previous dart of its ring lie.
+#[derive(Clone, Copy)]
+pub struct DartCell {
+    pub(crate) number: u32,
+    pub(crate) next: *mut DartCell,
+    pub(crate) prev: *mut DartCell,
+}
+
+/// Where a block begins, or a cell lies. It owns nothing.
+#[derive(Clone, Copy)]
+pub struct Place {
+    pub(crate) ptr: *mut DartCell,
+}
+
+/// The owner of the cells. It takes no space: the table of the blocks stands beside it.
+pub struct Cells {
+    mark: PhantomData<*mut DartCell>,
+    pub(crate) ghost table: { List Ptr },
+    pub(crate) ghost next: { List ℕ },
+    pub(crate) ghost prev: { List ℕ },
+}
+
+impl Model for Cells {
+    ghost also_owns = { λ c. cells_own c.table c.next c.prev };
+
+    ghost also_shares = { λ c _ κ. cells_lent c.table c.next c.prev κ };
+}
+
+/// The cell of a block by its place in it.
+pub(crate) fn cell(block: Place, i: u32) -> Place
+    requires { i < 1024 }
+    ensures { result.ptr ≡ block.ptr +ₚ (i * 24) }
+{
+    Place {
+        ptr: unsafe { block.ptr.add(i as usize) },
+    }
+}
+
+impl Cells {
+    /// The number of the cell after the one at `here`, which is that of d.
+    pub(crate) fn next(&self, here: Place, d: u32) -> u32
+        requires here { here.ptr ≡ place self.now.table d }
+        requires linked { AreInverse self.now.next self.now.prev }
+        requires below { d < length self.now.next }
+        ensures { result ≡ at self.now.next d }
+    {
+        let cell = here.ptr;
+        unsafe {
+            let after = (*cell).next;
+            (*after).number
+        }
+    }
+
+    pub(crate) fn splice(&mut self, at_a: Place, at_b: Place, a: u32, b: u32)
+        requires here_a { at_a.ptr ≡ place self.old.table a }
+        requires here_b { at_b.ptr ≡ place self.old.table b }
+        ensures table { self.new.table ≡ self.old.table }
+        ensures next { self.new.next ≡ swap self.old.next a b }
+    {
+        let (a, b) = (at_a.ptr, at_b.ptr);
+        unsafe {
+            let after_a = (*a).next;
+            let after_b = (*b).next;
+            (*a).next = after_b;
+            (*b).next = after_a;
+            (*after_a).prev = b;
+            (*after_b).prev = a;
+        }
+    }
+
+    pub(crate) fn block(&mut self, room: Box<[DartCell; 1024]>, first: u32) -> Place
+    {
+        let ptr = Box::into_raw(room) as *mut DartCell;
+        let mut i = 0;
+        while i < 1024 {
+            unsafe {
+                let cell = ptr.add(i as usize);
+                cell.write(DartCell {
+                    number: first + i,
+                    next: cell,
+                    prev: cell,
+                });
+            }
+            i += 1;
+        }
+        Place { ptr }
+    }
+
+    pub(crate) fn free(&mut self, block: Place, alloc: Global) -> Box<[DartCell; 1024]>
+    {
+        unsafe { Box::from_raw(alloc, block.ptr as *mut [DartCell; 1024]) }
+    }
+}
+
+fn probe(alloc: Global) -> Result<Box<[DartCell; 1024]>, AllocError> {
+    let blank = DartCell {
+        number: 0,
+        next: std::ptr::null_mut(),
+        prev: std::ptr::null_mut(),
+    };
+    let b = Box::new(alloc, [blank; 1024])?;
+    Ok(b)
+}
