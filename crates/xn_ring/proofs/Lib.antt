@@ -4,6 +4,8 @@ pub mod Halves
 pub mod Inverse
 pub mod Marked
 pub mod Marks
+pub mod Memory
+pub mod Opened
 pub mod Orbits
 pub mod Renumbering
 pub mod Restriction

@@ -66,20 +66,26 @@ impl Cells {
         }
     }
 
-    pub(crate) fn splice(&mut self, at_a: Place, at_b: Place, a: u32, b: u32)
-        requires here_a { at_a.ptr ≡ place self.old.table a }
-        requires here_b { at_b.ptr ≡ place self.old.table b }
+    /// Swaps the successors of two darts by four pointers of their cells and those after them.
+    pub(crate) fn splice(&mut self, here_a: Place, here_b: Place, a: u32, b: u32)
+        requires here_a { here_a.ptr ≡ place self.old.table a }
+        requires here_b { here_b.ptr ≡ place self.old.table b }
+        requires linked { AreInverse self.old.next self.old.prev }
+        requires below_a { a < length self.old.next }
+        requires below_b { b < length self.old.next }
         ensures table { self.new.table ≡ self.old.table }
         ensures next { self.new.next ≡ swap self.old.next a b }
+        ensures prev { self.new.prev ≡ swap self.old.prev (at self.old.next a) (at self.old.next b) }
     {
-        let (a, b) = (at_a.ptr, at_b.ptr);
+        let cell_a = here_a.ptr;
+        let cell_b = here_b.ptr;
         unsafe {
-            let after_a = (*a).next;
-            let after_b = (*b).next;
-            (*a).next = after_b;
-            (*b).next = after_a;
-            (*after_a).prev = b;
-            (*after_b).prev = a;
+            let after_a = (*cell_a).next;
+            let after_b = (*cell_b).next;
+            (*cell_a).next = after_b;
+            (*cell_b).next = after_a;
+            (*after_a).prev = cell_b;
+            (*after_b).prev = cell_a;
         }
     }
 
