@@ -10,10 +10,11 @@ use seplogic.Ra.Ura.{Ura}
 use base.Fraction.{full_share}
 use mir.Syntax.{Ty, w32}
 use mir.Val.{Val, vint, vstruct, vcons, vnil}
-use base.Logic.{ent, never, id⊢}
+use base.Logic.{SProp, ent, sep, emp, via, id⊢}
+use contract.Monad.{fact, fact_i}
 use base.Fml.{Fml, ftrue, ffalse, fsep, fat}
 use types.Logic.{Logic, sem}
-use types.Kit.{Item, Goal, Seq, Step, step, ‵, ◌⊛◌, some, ◌$◌, ◌∵◌, !, qed, by, move, keep, drop, use1, use2, pick, split, frame, fsplit, fjoin, fpick, fpack, feq_i, flt_i, rewrite, done}
+use types.Kit.{Item, Goal, Seq, Step, step, prop, ‵, raw, ◌⊛◌, some, use0, ◌$◌, ◌∵◌, !, qed, by, move, keep, drop, use1, use2, pick, split, frame, fsplit, fjoin, fpick, fpack, feq_i, flt_i, rewrite, done}
 use denote.RattleType.{Valss}
 use denote.Laws.{shows}
 use denote.Memory.{lone, part_at}
@@ -102,3 +103,11 @@ pub in_again : {M : Type 1} {𝓤 : Ura M} (𝓛 : Logic 𝓤) (g : ℕ → Ptr)
 in_again {𝓤 = 𝓤} 𝓛 g f f' n d p same =
     subst (λ (F : Fml). ent 𝓤 (sem 𝓛 (fsep (lies_at D.the_row full_share (g d) (f' d)) F)) (sem 𝓛 (run g f' 0 n)))
     (sym (same_hole g f f' 0 n d (λ k ne. same k (λ e. ne (omega (arith, e)))))) (back 𝓛 g f' 0 n d d p (omega arith))
+
+module _ {M : Type 1} {𝓤 : Ura M} {𝓛 : Logic 𝓤} {K : Type 0} {Γ : List (Item 𝓤)} where
+  -- an `ensures` of three facts
+  pub says_three : K → {φ ψ χ : Type 0} {P : SProp 𝓤} → φ → ψ → χ → Step K 𝓛 Γ (prop P) Γ (prop (sep 𝓤 P (sep 𝓤 (fact 𝓤 φ) (sep 𝓤 (fact 𝓤 ψ) (fact 𝓤 χ)))))
+  says_three t {φ} {ψ} {χ} {P} x y z = step (λ s. record {
+    prf = via 𝓤 P s.prf (qed 𝓛 (raw P ∷ []) {P = sep 𝓤 P (sep 𝓤 (fact 𝓤 φ) (sep 𝓤 (fact 𝓤 ψ) (fact 𝓤 χ)))} (
+        frame ! $ use0 𝓛 (raw (fact 𝓤 χ)) (fact_i 𝓤 χ (emp 𝓤) z) $ use0 𝓛 (raw (fact 𝓤 ψ)) (fact_i 𝓤 ψ (emp 𝓤) y) $ use0 𝓛 (raw (fact 𝓤 φ)) (fact_i 𝓤 φ (emp 𝓤) x) $ done !));
+  })
