@@ -42,12 +42,13 @@ impl Model for Cells {
 }
 
 /// The cell of a block by its place in it.
-pub(crate) fn cell(block: Place, i: u32) -> Place
+pub(crate) fn cell(block: Place, i: usize) -> Place
     requires { i < 1024 }
     ensures { result.ptr ≡ block.ptr +ₚ (i * 24) }
 {
+    let start = block.ptr;
     Place {
-        ptr: unsafe { block.ptr.add(i as usize) },
+        ptr: unsafe { start.add(i) },
     }
 }
 
@@ -63,6 +64,20 @@ impl Cells {
         unsafe {
             let after = (*cell).next;
             (*after).number
+        }
+    }
+
+    /// The number of the cell before the one at `here`, which is that of d.
+    pub(crate) fn prev(&self, here: Place, d: u32) -> u32
+        requires here { here.ptr ≡ place self.now.table d }
+        requires linked { AreInverse self.now.next self.now.prev }
+        requires below { d < length self.now.next }
+        ensures { result ≡ at self.now.prev d }
+    {
+        let cell = here.ptr;
+        unsafe {
+            let before = (*cell).prev;
+            (*before).number
         }
     }
 
