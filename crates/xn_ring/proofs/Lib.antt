@@ -2,6 +2,7 @@ pub mod Agreeing
 pub mod Counting
 pub mod Halves
 pub mod Inverse
+pub mod Literals
 pub mod Marked
 pub mod Marks
 pub mod Memory

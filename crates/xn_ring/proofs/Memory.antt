@@ -24,6 +24,8 @@ use denote.Struct.Struct.{within}
 use denote.Struct.Declared as Declared
 use borrow.Table.OneValue.{part_in, part_out}
 use Rattle.std.specs.Prelude.{◌≢◌}
+use Rattle.std.proofs.RcSteps.{word}
+use Rattle.xn_ring.specs.contracts.cells.Place as P
 use Rattle.xn_ring.specs.contracts.cells.DartCell as D
 use Rattle.xn_ring.specs.declared.cells.DartCell.{DartCell}
 use Rattle.xn_ring.proofs.cells.DartCell.TheLaws.{lowers}
@@ -51,6 +53,12 @@ module _ {M : Type 1} {𝓤 : Ura M} {𝓛 : Logic 𝓤} {K : Type 0} {Γ : List
       feq_i t (List Val) (v ∷ []) (v ∷ []) refl $ fjoin t $
       fpack t (Valss (Declared.shape D.the_type).fields) (within (Declared.shape D.the_type) (c.number, (c.next, (c.prev, tt))) (v ∷ [])) (vint w32 c.number ∷ [], (ptr_val c.next ∷ [], (ptr_val c.prev ∷ [], tt))) $
       move t (1 ∷ 0 ∷ []) $ use2 𝓛 (‵ (part_at D.the_row full_share c b o)) (part_in 𝓛 D.the_row refl full_share c b o v) $ s)
+
+module _ {M : Type 1} {𝓤 : Ura M} {𝓛 : Logic 𝓤} {K : Type 0} {Γ : List (Item 𝓤)} {G : Goal 𝓤 𝓛.H} where
+  pub place_made : K → (p : Ptr) → Step K 𝓛 (‵ (P.the_row.own_val (record { ptr = p }) (word p ∷ [])) ∷ Γ) G Γ G
+  place_made t p = step (λ s.
+      nothing t $ feq_i t (List Val) (ptr_val p ∷ []) (ptr_val p ∷ []) refl $ fjoin t $ feq_i t (List Val) (word p ∷ []) (word p ∷ []) refl $ fjoin t $
+      fpack t (Valss (Declared.shape P.the_type).fields) (within (Declared.shape P.the_type) (p, tt) (word p ∷ [])) (ptr_val p ∷ [], tt) $ s)
 
 -- a run of n cells but for the i-th
 abbrev pub hole : (ℕ → Ptr) → (ℕ → DartCell) → ℕ → ℕ → ℕ → Fml

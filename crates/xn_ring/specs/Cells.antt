@@ -1,7 +1,11 @@
--- Where the cells of a table of blocks lie, and what they hold.
-use Rattle.std.specs.Prelude.{ℕ, zero, suc, ◌+◌, ◌*◌, ◌-◌, ◌/◌, ◌%◌, List, [], ◌∷◌, slice_index_or}
+-- Where the cells of a table of blocks lie.
+use Rattle.std.specs.Prelude.{ℕ, ◌*◌, ◌/◌, ◌%◌, List, slice_index_or}
 use denote.RawPtr.{Ptr, null_ptr, ◌+ₚ◌}
 
--- where the cell of dart d lies
+-- where the block of dart d begins
+abbrev pub start : List Ptr → ℕ → Ptr
+start table d = slice_index_or table (d / 1024) null_ptr
+
+-- where the cell of dart d lies: each cell takes 24 bytes
 unfoldable pub place : List Ptr → ℕ → Ptr
-place table d = slice_index_or table (d / 1024) null_ptr +ₚ (d % 1024 * 24)
+place table d = start table d +ₚ (d % 1024 * 24)

@@ -4,7 +4,7 @@ ghost use Rattle.std.specs.List.{range_with_len};
 ghost use denote.RawPtr.{Ptr, ◌+ₚ◌};
 ghost use Rattle.xn_model.specs.Lists.{at};
 ghost use Rattle.xn_ring.specs.Rings.{AreInverse};
-ghost use Rattle.xn_ring.specs.Cells.{place};
+ghost use Rattle.xn_ring.specs.Cells.{place, start};
 ghost use Rattle.xn_ring.specs.Ownership.{cells_own, cells_lent};
 
 use std::alloc::{AllocError, Global};
@@ -41,18 +41,20 @@ impl Model for Cells {
     ghost also_shares = { λ c _ κ. cells_lent c.table c.next c.prev κ };
 }
 
-/// The cell of a block by its place in it.
-pub(crate) fn cell(block: Place, i: usize) -> Place
-    requires { i < 1024 }
-    ensures { result.ptr ≡ block.ptr +ₚ (i * 24) }
-{
-    let start = block.ptr;
-    Place {
-        ptr: unsafe { start.add(i) },
-    }
-}
-
 impl Cells {
+    /// Where the cell of d lies in its block.
+    pub(crate) fn cell(&self, block: Place, d: u32) -> Place
+        requires begins { block.ptr ≡ start self.now.table d }
+        requires below { d < length self.now.next }
+        ensures { result.ptr ≡ place self.now.table d }
+    {
+        let begin = block.ptr;
+        let i = (d % 1024) as usize;
+        Place {
+            ptr: unsafe { begin.add(i) },
+        }
+    }
+
     /// The number of the cell after the one at `here`, which is that of d.
     pub(crate) fn next(&self, here: Place, d: u32) -> u32
         requires here { here.ptr ≡ place self.now.table d }
