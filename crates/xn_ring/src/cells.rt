@@ -1,10 +1,10 @@
 //! The cells of the darts, in raw blocks that never move.
-ghost use Rattle.std.specs.Prelude.{◌≡◌, ℕ, ◌+◌, ◌*◌, ◌^◌, ◌<◌, ◌≤◌, ◌++◌, List, [], ◌∷◌, length, swap};
+ghost use Rattle.std.specs.Prelude.{◌≡◌, ℕ, ◌/◌, ◌<◌, List, length, swap};
 ghost use Rattle.std.specs.List.{range_with_len};
-ghost use denote.RawPtr.{Ptr, ◌+ₚ◌};
+ghost use Rattle.std.specs.declared.alloc.Global.{Global};
+ghost use denote.RawPtr.{Ptr};
 ghost use Rattle.xn_model.specs.Lists.{at};
-ghost use Rattle.xn_ring.specs.Rings.{AreInverse};
-ghost use Rattle.xn_ring.specs.Cells.{place, start};
+ghost use Rattle.xn_ring.specs.Cells.{AreCells, block_at, place};
 ghost use Rattle.xn_ring.specs.Ownership.{cells_own, cells_lent};
 
 use std::alloc::{AllocError, Global};
@@ -30,21 +30,24 @@ pub struct Place {
 /// The owner of the cells. It takes no space: the table of the blocks stands beside it.
 pub struct Cells {
     mark: PhantomData<*mut DartCell>,
+    pub(crate) ghost alloc: { Global },
     pub(crate) ghost table: { List Ptr },
+    pub(crate) ghost left: { ℕ },
     pub(crate) ghost next: { List ℕ },
     pub(crate) ghost prev: { List ℕ },
 }
 
 impl Model for Cells {
-    ghost also_owns = { λ c. cells_own c.table c.next c.prev };
+    ghost also_owns = { λ c. cells_own c.alloc c.table c.left c.next c.prev };
 
-    ghost also_shares = { λ c _ κ. cells_lent c.table c.next c.prev κ };
+    ghost also_shares = { λ c _ κ. cells_lent c.table c.left c.next c.prev κ };
 }
 
 impl Cells {
     /// Where the cell of d lies in its block.
     pub(crate) fn cell(&self, block: Place, d: u32) -> Place
-        requires begins { block.ptr ≡ start self.now.table d }
+        requires begins { block.ptr ≡ block_at self.now.table (d / 1024) }
+        requires linked { AreCells self.now.table self.now.left self.now.next self.now.prev }
         requires below { d < length self.now.next }
         ensures { result.ptr ≡ place self.now.table d }
     {
@@ -58,7 +61,7 @@ impl Cells {
     /// The number of the cell after the one at `here`, which is that of d.
     pub(crate) fn next(&self, here: Place, d: u32) -> u32
         requires here { here.ptr ≡ place self.now.table d }
-        requires linked { AreInverse self.now.next self.now.prev }
+        requires linked { AreCells self.now.table self.now.left self.now.next self.now.prev }
         requires below { d < length self.now.next }
         ensures { result ≡ at self.now.next d }
     {
@@ -72,7 +75,7 @@ impl Cells {
     /// The number of the cell before the one at `here`, which is that of d.
     pub(crate) fn prev(&self, here: Place, d: u32) -> u32
         requires here { here.ptr ≡ place self.now.table d }
-        requires linked { AreInverse self.now.next self.now.prev }
+        requires linked { AreCells self.now.table self.now.left self.now.next self.now.prev }
         requires below { d < length self.now.next }
         ensures { result ≡ at self.now.prev d }
     {
@@ -87,10 +90,10 @@ impl Cells {
     pub(crate) fn splice(&mut self, here_a: Place, here_b: Place, a: u32, b: u32)
         requires here_a { here_a.ptr ≡ place self.old.table a }
         requires here_b { here_b.ptr ≡ place self.old.table b }
-        requires linked { AreInverse self.old.next self.old.prev }
+        requires linked { AreCells self.old.table self.old.left self.old.next self.old.prev }
         requires below_a { a < length self.old.next }
         requires below_b { b < length self.old.next }
-        ensures table { self.new.table ≡ self.old.table }
+        ensures table { (self.new.table ≡ self.old.table) × (self.new.left ≡ self.old.left) × (self.new.alloc ≡ self.old.alloc) }
         ensures next { self.new.next ≡ swap self.old.next a b }
         ensures prev { self.new.prev ≡ swap self.old.prev (at self.old.next a) (at self.old.next b) }
     {
@@ -130,12 +133,3 @@ impl Cells {
     }
 }
 
-fn probe(alloc: Global) -> Result<Box<[DartCell; 1024]>, AllocError> {
-    let blank = DartCell {
-        number: 0,
-        next: std::ptr::null_mut(),
-        prev: std::ptr::null_mut(),
-    };
-    let b = Box::new(alloc, [blank; 1024])?;
-    Ok(b)
-}

@@ -10,5 +10,5 @@ use Rattle.xn_ring.proofs.Sharing.{cells_lent_laws, Lends-cells}
 
 pub shares : statement
 shares =
-    of_Lends C.struct (C.the_codes (marker.the_row RawPtr).coded) C.the_heap C.the_lent (λ d p. cells_lent_laws d.table d.next d.prev)
-    (copy_shared (marker.the_field RawPtr) (field_copy (marker.the_type RawPtr) tt), tt) (λ M 𝓤 𝓛 d p. Lends-cells 𝓛 (C.the_row).lives d.table d.next d.prev)
+    of_Lends C.struct (C.the_codes (marker.the_row RawPtr).coded) C.the_heap C.the_lent (λ d p. cells_lent_laws d.table d.left d.next d.prev)
+    (copy_shared (marker.the_field RawPtr) (field_copy (marker.the_type RawPtr) tt), tt) (λ M 𝓤 𝓛 d p. Lends-cells 𝓛 (C.the_row).lives d.alloc d.table d.left d.next d.prev)

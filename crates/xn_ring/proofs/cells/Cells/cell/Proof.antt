@@ -1,5 +1,5 @@
 -- `cell` goes along a block to one of its cells. Assumes `Logic`.
-use Prim.Native.Nat.{ℕ, ◌+◌, ◌*◌, ◌%◌, ◌<◌, ◌^◌}
+use Prim.Native.Nat.{ℕ, ◌+◌, ◌*◌, ◌/◌, ◌%◌, ◌<◌, ◌^◌}
 use native.Mathlib.Omega.{arith}
 use native.Mathlib.Nat.{add_comm}
 use mathlib.Core.Path.{◌≡◌, refl, sym, ap, ◌∙◌}
@@ -32,7 +32,7 @@ use Rattle.std.proofs.VecSteps.Shapes.{after}
 use Rattle.std.proofs.RcSteps.{word, word-Good}
 use Rattle.std.proofs.lemmas.Nat.{mod_below}
 use Rattle.std.proofs.raw_atomic.Walks.{proved}
-use Rattle.xn_ring.specs.Cells.{place, start}
+use Rattle.xn_ring.specs.Cells.{AreCells, block_at, place}
 use Rattle.xn_ring.specs.Ownership.{cell_of}
 use Rattle.xn_ring.specs.contracts.cells.DartCell as D
 use Rattle.xn_ring.specs.contracts.cells.Cells as C
@@ -60,12 +60,12 @@ cell_spec 𝓤 𝓛 𝓜 𝓡 wired =
     let y : W.Ghost = ((κs, qs, bounds, a, (shr_vals self, (lowers.lowered h ∷ [], (uint_vals w32 d, tt)))), tt) in
     let Cell = cell_of m.table m.next m.prev in
     qed 𝓛 (((‵ (flft κ q) ⊛ ‵ ftrue) ⊛ ‵ ((ShrRef (named 0) κ C.the_row).own_val self (shr_vals self)) ⊛ ‵ (P.the_row.own_val h (lowers.lowered h ∷ [])) ⊛ ‵ (u32.own_val d (uint_vals w32 d)) ⊛ ‵ ftrue)
-    ∷ (raw (fact 𝓤 (h.ptr ≡ start m.table d)) ⊛ raw (fact 𝓤 (d < length m.next))) ∷ []) ∵
-    move ! (1 ∷ []) $ split ! $ heard ! _ (λ begins. heard ! _ (λ below. split ! $ split ! $ move ! (2 ∷ []) $ split ! $ fsplit ! $ keep ! (1 ∷ 3 ∷ []) $
+    ∷ (raw (fact 𝓤 (h.ptr ≡ block_at m.table (d / 1024))) ⊛ raw (fact 𝓤 (AreCells m.table m.left m.next m.prev)) ⊛ raw (fact 𝓤 (d < length m.next))) ∷ []) ∵
+    move ! (1 ∷ []) $ split3 ! $ heard ! _ (λ begins. heard ! _ (λ cells. heard ! _ (λ below. split ! $ split ! $ move ! (2 ∷ []) $ split ! $ fsplit ! $ keep ! (1 ∷ 3 ∷ []) $
     let fits : d < 2 ^ 32 = are.1.1.0.1 in let i = d % 1024 in
     unhide ! $ fsplit ! $ drop ! $
-    use1 𝓛 (‵ (lent_at D.the_row (place m.table d) (Cell d) κ)) (seen_at 𝓛 κ (place m.table) Cell 0 (length m.next) d d below (omega arith)) $
-    in_a_block ! (start m.table d) (λ p. lent_at D.the_row (p +ₚ (i * 24)) (Cell d) κ) (fst∗ 𝓤 (never 𝓤) (sem 𝓛 (shared_of D.the_row (Cell d) 0 0 κ))) (λ b o e. drop ! $
+    use1 𝓛 (‵ (lent_at D.the_row (place m.table d) (Cell d) κ)) (seen_at 𝓛 κ (place m.table) Cell 0 (1024 * m.left) d d (omega (arith, below, cells.whole)) (omega arith)) $
+    in_a_block ! (block_at m.table (d / 1024)) (λ p. lent_at D.the_row (p +ₚ (i * 24)) (Cell d) κ) (fst∗ 𝓤 (never 𝓤) (sem 𝓛 (shared_of D.the_row (Cell d) 0 0 κ))) (λ b o e. drop ! $
     enter ! _ _ _ _ _ $ alloc_all ! (λ l. pass_all ! refl ((tt, tt), (word-Good [] h.ptr, ((tt, record { fits = fits }), tt))) $
     sets ! (is ! (of_opd ! (get_in ! (fld ! refl (stop !)) (sub ! 0 refl (whole !)))) (ap ptr_val (begins ∙ e))) refl (tt, tt) $
     sets ! (of_opd ! (get ! refl)) refl (tt, record { fits = fits }) $
@@ -82,4 +82,4 @@ cell_spec 𝓤 𝓛 𝓜 𝓡 wired =
     suffices ! _ (ends_at 𝓛 f.ended stayed c y (word p) (record { ptr = p }) (tt, (tt, (tt, tt))) (tt, (tt, (tt, tt)))) $
     says ! (ap (block_ptr b) (add_comm (i * 24) o) ∙ sym (ap (λ (s : Ptr). s +ₚ (i * 24)) e)) $
     place_made ! p $ nothing ! $ nothing ! $ join ! $ nothing ! $ join ! $ nothing ! $ join ! $ join ! $
-    nothing ! $ move ! (2 ∷ 0 ∷ []) $ join ! $ join ! $ done !)))))
+    nothing ! $ move ! (2 ∷ 0 ∷ []) $ join ! $ join ! $ done !))))))

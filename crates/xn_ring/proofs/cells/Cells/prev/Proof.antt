@@ -1,5 +1,5 @@
 -- `prev` reads a pointer of one cell, and the number of the cell that it leads to. Assumes `Logic`.
-use Prim.Native.Nat.{ℕ, ◌+◌, ◌<◌, ◌^◌}
+use Prim.Native.Nat.{ℕ, ◌+◌, ◌*◌, ◌<◌, ◌^◌}
 use native.Mathlib.Omega.{arith}
 use mathlib.Core.Path.{◌≡◌, refl, sym, ap, ◌∙◌}
 use mathlib.Core.List.{List, [], ◌∷◌}
@@ -30,8 +30,7 @@ use Rattle.std.proofs.RcSteps.{word, word-Good, Ptr-Good}
 use Rattle.std.proofs.raw_atomic.Walks.{proved}
 use Rattle.std.specs.Prelude.{length}
 use Rattle.xn_model.specs.Lists.{at}
-use Rattle.xn_ring.specs.Cells.{place}
-use Rattle.xn_ring.specs.Rings.{AreInverse}
+use Rattle.xn_ring.specs.Cells.{AreCells, place}
 use Rattle.xn_ring.specs.Ownership.{cell_of, cells_lent}
 use Rattle.xn_ring.specs.contracts.cells.DartCell as D
 use Rattle.xn_ring.specs.contracts.cells.Cells as C
@@ -56,14 +55,14 @@ prev_spec 𝓤 𝓛 𝓜 𝓡 wired =
     let κ = κs.0 in let q = qs.0 in let self = a.0 in let h = a.1.0 in let d = a.1.1.0 in let m = self.now in
     let b = self.ref_ptr.0 in let o = self.ref_ptr.1 in let nd = at m.prev d in
     let y : W.Ghost = ((κs, qs, bounds, a, (shr_vals self, (lowers.lowered h ∷ [], (uint_vals w32 d, tt)))), tt) in
-    let Lent = cells_lent m.table m.next m.prev in let Cell = cell_of m.table m.next m.prev in
+    let Lent = cells_lent m.table m.left m.next m.prev in let Cell = cell_of m.table m.next m.prev in
     qed 𝓛 (((‵ (flft κ q) ⊛ ‵ ftrue) ⊛ ‵ ((ShrRef (named 0) κ C.the_row).own_val self (shr_vals self)) ⊛ ‵ (P.the_row.own_val h (lowers.lowered h ∷ [])) ⊛ ‵ (u32.own_val d (uint_vals w32 d)) ⊛ ‵ ftrue)
-    ∷ (raw (fact 𝓤 (h.ptr ≡ place m.table d)) ⊛ raw (fact 𝓤 (AreInverse m.next m.prev)) ⊛ raw (fact 𝓤 (d < length m.next))) ∷ []) ∵
-    move ! (1 ∷ []) $ split3 ! $ heard ! _ (λ here. heard ! _ (λ linked. heard ! _ (λ below. split ! $ split ! $ move ! (2 ∷ []) $ split ! $ fsplit ! $ keep ! (1 ∷ 3 ∷ []) $
-    let fits : d < 2 ^ 32 = are.1.1.0.1 in
-    unhide ! $ fsplit ! $ drop ! $ hide ! $ laws_dup ! Lent (cells_lent_laws m.table m.next m.prev) κ $ unhide ! $
-    use1 𝓛 (‵ (lent_at D.the_row (place m.table d) (Cell d) κ)) (seen_at 𝓛 κ (place m.table) Cell 0 (length m.next) d d below (omega arith)) $ move ! (1 ∷ []) $ unhide ! $
-    use1 𝓛 (‵ (lent_at D.the_row (place m.table nd) (Cell nd) κ)) (seen_at 𝓛 κ (place m.table) Cell 0 (length m.next) nd nd (linked.prev_below d below) (omega arith)) $
+    ∷ (raw (fact 𝓤 (h.ptr ≡ place m.table d)) ⊛ raw (fact 𝓤 (AreCells m.table m.left m.next m.prev)) ⊛ raw (fact 𝓤 (d < length m.next))) ∷ []) ∵
+    move ! (1 ∷ []) $ split3 ! $ heard ! _ (λ here. heard ! _ (λ cells. heard ! _ (λ below. split ! $ split ! $ move ! (2 ∷ []) $ split ! $ fsplit ! $ keep ! (1 ∷ 3 ∷ []) $
+    let fits : d < 2 ^ 32 = are.1.1.0.1 in let linked = cells.inverse in let full = cells.whole in let n = 1024 * m.left in
+    unhide ! $ fsplit ! $ drop ! $ hide ! $ laws_dup ! Lent (cells_lent_laws m.table m.left m.next m.prev) κ $ unhide ! $
+    use1 𝓛 (‵ (lent_at D.the_row (place m.table d) (Cell d) κ)) (seen_at 𝓛 κ (place m.table) Cell 0 n d d (omega (arith, below, full)) (omega arith)) $ move ! (1 ∷ []) $ unhide ! $
+    use1 𝓛 (‵ (lent_at D.the_row (place m.table nd) (Cell nd) κ)) (seen_at 𝓛 κ (place m.table) Cell 0 n nd nd (omega (arith, linked.prev_below d below, full)) (omega arith)) $
     in_a_block ! (place m.table nd) (λ p. lent_at D.the_row p (Cell nd) κ) (fst∗ 𝓤 (never 𝓤) (sem 𝓛 (shared_of D.the_row (Cell nd) 0 0 κ))) (λ nb no ne.
     fsplit ! $ drop ! $ fsplit ! $ fsplit ! $ hide ! $ move ! (3 ∷ []) $
     in_a_block ! (place m.table d) (λ p. lent_at D.the_row p (Cell d) κ) (fst∗ 𝓤 (never 𝓤) (sem 𝓛 (shared_of D.the_row (Cell d) 0 0 κ))) (λ b' o' e.
