@@ -1,5 +1,6 @@
 //! The cells of the darts, in raw blocks that never move.
-ghost use Rattle.std.specs.Prelude.{◌≡◌, ℕ, ◌/◌, ◌<◌, List, length, swap};
+ghost use Rattle.std.specs.Prelude.{◌≡◌, ℕ, ◌+◌, ◌-◌, ◌/◌, ◌^◌, ◌<◌, ◌≤◌, ◌++◌, List, [], ◌∷◌, length, swap};
+ghost use Rattle.std.specs.Box.{box_allocator};
 ghost use Rattle.std.specs.List.{range_with_len};
 ghost use Rattle.std.specs.declared.alloc.Global.{Global};
 ghost use denote.RawPtr.{Ptr};
@@ -7,7 +8,7 @@ ghost use Rattle.xn_model.specs.Lists.{at};
 ghost use Rattle.xn_ring.specs.Cells.{AreCells, block_at, place};
 ghost use Rattle.xn_ring.specs.Ownership.{cells_own, cells_lent};
 
-use std::alloc::{AllocError, Global};
+use std::alloc::Global;
 use std::marker::{Model, PhantomData};
 
 /// The cells of one block.
@@ -109,27 +110,58 @@ impl Cells {
         }
     }
 
+    /// Takes one block, and makes each of its cells alone.
     pub(crate) fn block(&mut self, room: Box<[DartCell; 1024]>, first: u32) -> Place
+        requires linked { AreCells self.old.table self.old.left self.old.next self.old.prev }
+        requires first { first ≡ length self.old.next }
+        requires small { first + 1024 ≤ 2 ^ 32 }
+        requires alloc { box_allocator room ≡ self.old.alloc }
+        ensures table { (self.new.table ≡ self.old.table ++ result.ptr ∷ []) × (self.new.left ≡ self.old.left + 1) × (self.new.alloc ≡ self.old.alloc) }
+        ensures next { self.new.next ≡ self.old.next ++ range_with_len first 1024 }
+        ensures prev { self.new.prev ≡ self.old.prev ++ range_with_len first 1024 }
     {
-        let ptr = Box::into_raw(room) as *mut DartCell;
-        let mut i = 0;
+        let begin = Box::into_raw(room) as *mut DartCell;
+        let mut i = 0u32;
         while i < 1024 {
             unsafe {
-                let cell = ptr.add(i as usize);
+                let cell = begin.add(i as usize);
+                let number = first + i;
                 cell.write(DartCell {
-                    number: first + i,
+                    number,
                     next: cell,
                     prev: cell,
                 });
             }
             i += 1;
         }
-        Place { ptr }
+        Place { ptr: begin }
     }
 
-    pub(crate) fn free(&mut self, block: Place, alloc: Global) -> Box<[DartCell; 1024]>
+    /// Gives the last block back.
+    pub(crate) fn unblock(&mut self, block: Place, alloc: Global) -> Box<[DartCell; 1024]>
+        requires left { 0 < self.old.left }
+        requires last { block.ptr ≡ block_at self.old.table (self.old.left - 1) }
+        requires alloc { alloc ≡ self.old.alloc }
+        ensures left { self.new.left + 1 ≡ self.old.left }
+        ensures table { (self.new.table ≡ self.old.table) × (self.new.alloc ≡ self.old.alloc) }
     {
-        unsafe { Box::from_raw(alloc, block.ptr as *mut [DartCell; 1024]) }
+        let begin = block.ptr as *mut [DartCell; 1024];
+        unsafe { Box::from_raw(alloc, begin) }
+    }
+
+    /// No block.
+    pub(crate) fn none(alloc: Global) -> Cells
+        ensures blocks { (result.table ≡ []) × (result.left ≡ 0) × (result.alloc ≡ alloc) }
+        ensures next { result.next ≡ [] }
+        ensures prev { result.prev ≡ [] }
+    {
+        let _ = alloc;
+        Cells { mark: PhantomData }
     }
 }
 
+impl Drop for Cells {
+    fn drop(self) {
+        let Cells { mark: _ } = self;
+    }
+}
