@@ -1,4 +1,5 @@
 pub mod Agreeing
+pub mod Boxes
 pub mod Counting
 pub mod Halves
 pub mod Inverse
@@ -8,6 +9,8 @@ pub mod Marks
 pub mod Memory
 pub mod Opened
 pub mod Orbits
+pub mod Places
+pub mod Blocks
 pub mod Renumbering
 pub mod Restriction
 pub mod Seen
