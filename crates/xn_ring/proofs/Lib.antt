@@ -1,6 +1,7 @@
 pub mod Agreeing
 pub mod Boxes
 pub mod Counting
+pub mod Freed
 pub mod Grown
 pub mod Halves
 pub mod Inverse
