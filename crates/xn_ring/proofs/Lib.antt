@@ -21,4 +21,5 @@ pub mod Skipping
 pub mod Splice
 pub mod SplitRing
 pub mod Transfer
+pub mod Views
 pub mod Without
