@@ -2,10 +2,14 @@
 ghost use Rattle.std.specs.Prelude.{◌<◌};
 
 use super::*;
+use crate::flat_starts::flat_start;
+use crate::uppers::all_in;
 use std::alloc::{AllocError, Global};
+use std::process::Abort;
 use std::test::Fail;
 use xn_draw::examine;
 use xn_graph::Graph;
+use xn_simple::simplify;
 
 /// The edges of the complete graph.
 fn complete(alloc: Global, n: u32) -> Result<Vec<(u32, u32)>, AllocError> {
@@ -63,12 +67,44 @@ fn crossings(alloc: Global, nodes: u32, ends: Vec<(u32, u32)>, tries: u32) -> Re
     }
 }
 
+/// The crossings once those edges came in that don't lie flat with the others, and those of the simple drawing.
+fn others_come_in(
+    rt: &impl Abort,
+    alloc: Global,
+    nodes: u32,
+    ends: Vec<(u32, u32)>,
+) -> Result<(u64, u64), Fail> {
+    let graph = Graph::make(nodes, ends)?;
+    let order = graph.all_edges(alloc)?;
+    let flat = flat_start(alloc, &graph, &order)?;
+    assert!(rt; flat.crossings() == 0);
+    assert!(rt; !flat.whole());
+    let loose = all_in(alloc, &graph, &order)?;
+    assert!(rt; loose.whole());
+    let crossings = loose.crossings();
+    let drawing = simplify(alloc, &graph, loose)?;
+    match examine(alloc, &graph, &drawing) {
+        Ok(seen) => Ok((crossings, seen.crossings)),
+        Err(_) => Err("no drawing")?,
+    }
+}
+
+/// Nine edges of K5 lie flat, and the last has to cross one.
+#[test]
+fn the_last_edge_of_k5_comes_in(rt: HostRuntime) -> Result<(), Fail> {
+    let k5 = complete(rt.alloc(), 5)?;
+    assert_eq!(rt; others_come_in(&rt, rt.alloc(), 5, k5)?, (1, 1));
+    Ok(())
+}
+
 #[test]
 fn one_order_serves_small_graphs(rt: HostRuntime) -> Result<(), Fail> {
     assert!(rt; crossings(rt.alloc(), 4, complete(rt.alloc(), 4)?, 1)? == 0);
     assert!(rt; crossings(rt.alloc(), 5, complete(rt.alloc(), 5)?, 1)? == 1);
     assert!(rt; crossings(rt.alloc(), 6, two_sides(rt.alloc(), 3, 3)?, 1)? == 1);
     assert!(rt; crossings(rt.alloc(), 6, complete(rt.alloc(), 6)?, 1)? == 3);
+    let parallel = [(1, 0), (0, 1), (2, 3), (3, 2), (3, 2)].to_vec(rt.alloc())?;
+    assert!(rt; crossings(rt.alloc(), 4, parallel, 1)? == 0);
     Ok(())
 }
 

@@ -59,8 +59,8 @@ fn drawn(alloc: Global, graph: &Graph, order: &[u32]) -> Result<Loose, AllocErro
     Ok(least)
 }
 
-// A loose drawing of all edges: those that lie flat, and then the others by the order.
-fn all_in(alloc: Global, graph: &Graph, order: &[u32]) -> Result<Loose, AllocError>
+/// A loose drawing of all edges: those that lie flat, and then the others by the order.
+pub fn all_in(alloc: Global, graph: &Graph, order: &[u32]) -> Result<Loose, AllocError>
     requires { IsOrderOfAll graph.now order.now }
     ensures { IfOk result (IsWholeOf graph.now) }
 {

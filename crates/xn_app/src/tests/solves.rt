@@ -15,16 +15,18 @@ const K4_GRAPH: &str = "graph [ \
     edge [ source 2 target 3 ] \
     ]";
 
-// The code with which the command ends, and what `check` says of the text that it writes.
-fn solved(alloc: Global, line: &str, graph: &str) -> Result<(u8, String), Fail> {
+// Whether the command ends with this code and writes an answer with this line, of which `check` says so much.
+fn solves_so(
+    alloc: Global,
+    line: &str,
+    graph: &str,
+    code: u8,
+    effort: &str,
+    want: &str,
+) -> Result<bool, Fail> {
     let (written, status) = ended(alloc, line, graph, "")?;
     let (verdict, _) = ended(alloc, "xnum check graph answer", graph, written.as_str())?;
-    Ok((status.code(), verdict))
-}
-
-fn solves_so(alloc: Global, line: &str, graph: &str, code: u8, want: &str) -> Result<bool, Fail> {
-    let (ended, verdict) = solved(alloc, line, graph)?;
-    Ok(ended == code && verdict.as_str() == want)
+    Ok(status.code() == code && written.as_str().contains(effort) && verdict.as_str() == want)
 }
 
 #[test]
@@ -48,16 +50,19 @@ fn an_empty_graph_is_solved(rt: HostRuntime) -> Result<(), Fail> {
 #[test]
 fn graphs_without_a_crossing_are_solved(rt: HostRuntime) -> Result<(), Fail> {
     let alloc = rt.alloc();
-    assert!(rt; solves_so(alloc, "xnum solve graph", K4_GRAPH, 0, "accepted 0 0\n")?);
+    let line = "xnum solve graph";
     assert!(rt;
         solves_so(
             alloc,
-            "xnum solve graph --budget 0",
+            line,
             K4_GRAPH,
             0,
+            "\neffort 0 10000\n",
             "accepted 0 0\n"
         )?
     );
+    let line = "xnum solve graph --budget 0";
+    assert!(rt; solves_so(alloc, line, K4_GRAPH, 0, "\neffort 0 0\n", "accepted 0 0\n")?);
     Ok(())
 }
 
@@ -65,11 +70,48 @@ fn graphs_without_a_crossing_are_solved(rt: HostRuntime) -> Result<(), Fail> {
 fn graphs_with_one_crossing_are_solved(rt: HostRuntime) -> Result<(), Fail> {
     let alloc = rt.alloc();
     let line = "xnum solve graph --budget 300";
-    assert!(rt; solves_so(alloc, line, K5_GRAPH, 0, "accepted 1 1\n")?);
+    assert!(rt;
+        solves_so(
+            alloc,
+            line,
+            K5_GRAPH,
+            0,
+            "\neffort 31 300\n",
+            "accepted 1 1\n"
+        )?
+    );
     let line = "xnum solve graph --budget 82208";
-    assert!(rt; solves_so(alloc, line, K5_GRAPH, 0, "accepted 1 1\n")?);
-    assert!(rt; solves_so(alloc, "xnum solve graph", K33_GRAPH, 0, "accepted 1 1\n")?);
-    assert!(rt; solves_so(alloc, "xnum solve graph", K5_CUT_GRAPH, 0, "accepted 1 1\n")?);
+    assert!(rt;
+        solves_so(
+            alloc,
+            line,
+            K5_GRAPH,
+            0,
+            "\neffort 31 82208\n",
+            "accepted 1 1\n"
+        )?
+    );
+    let line = "xnum solve graph";
+    assert!(rt;
+        solves_so(
+            alloc,
+            line,
+            K33_GRAPH,
+            0,
+            "\neffort 37 10000\n",
+            "accepted 1 1\n"
+        )?
+    );
+    assert!(rt;
+        solves_so(
+            alloc,
+            line,
+            K5_CUT_GRAPH,
+            0,
+            "\neffort 301 10000\n",
+            "accepted 1 1\n"
+        )?
+    );
     Ok(())
 }
 
@@ -79,15 +121,9 @@ fn parallel_edges_and_loops_are_solved(rt: HostRuntime) -> Result<(), Fail> {
     let last = "source 2 target 5 ]";
     let more = "source 2 target 5 ] edge [ source 0 target 3 ] edge [ source 0 target 0 ]";
     let graph = K33_GRAPH.replacen(alloc, last, more, 1)?;
-    assert!(rt;
-        solves_so(
-            alloc,
-            "xnum solve graph",
-            graph.as_str(),
-            0,
-            "accepted 1 1\n"
-        )?
-    );
+    let line = "xnum solve graph";
+    let effort = "\neffort 37 10000\n";
+    assert!(rt; solves_so(alloc, line, graph.as_str(), 0, effort, "accepted 1 1\n")?);
     Ok(())
 }
 
@@ -95,7 +131,7 @@ fn parallel_edges_and_loops_are_solved(rt: HostRuntime) -> Result<(), Fail> {
 fn a_spent_budget_leaves_k5_undecided(rt: HostRuntime) -> Result<(), Fail> {
     let alloc = rt.alloc();
     let line = "xnum solve graph --budget 0";
-    assert!(rt; solves_so(alloc, line, K5_GRAPH, 5, "accepted 0 1\n")?);
+    assert!(rt; solves_so(alloc, line, K5_GRAPH, 5, "\neffort 0 0\n", "accepted 0 1\n")?);
     let (_, status) = ended(alloc, line, K5_GRAPH, "")?;
     let undecided = Status::Undecided {
         lower: 0,
