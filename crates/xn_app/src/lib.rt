@@ -1,5 +1,5 @@
-//! The program, over whatever input and sinks it is given: reading the words and the files, judging an answer,
-//! writing, saying why it ended. And the same on the system that it runs on.
+//! The program, over whatever input and sinks it is given: reading the words and the files, searching a graph or judging
+//! an answer, writing, saying why it ended. And the same on the system that it runs on.
 #![tactic(auto)]
 
 mod files;

@@ -19,8 +19,8 @@ use xn_command::{Command, WordsErr, read_words};
 use xn_cutter::Cutter;
 use xn_io::{Input, Sink, write_all};
 
-/// Does all that the program does: reads the words, reads the files that they name, judges the answer, and writes what
-/// belongs to that.
+/// Does all that the program does: reads the words, reads the files that they name, searches the graph or judges the
+/// answer, and writes what belongs to that.
 ///
 /// The words begin with the program's name. The input and the sink are whatever is handed in: what the clauses say
 /// of files and of bytes written holds where the input tells its files and the sink what it took.

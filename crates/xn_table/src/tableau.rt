@@ -1,0 +1,322 @@
+// The lines of the simplex method: the variables that stand at no bound, written in those that do. A place
+// past the end of a list is answered by 0 or by nothing, so that no call asks anything of its caller.
+
+use crate::fixed::{ONE, product, quotient, whole};
+use std::alloc::{AllocError, Global};
+
+// By how much a variable has to miss a bound before it leaves.
+const LEAST_MISS: i64 = 1 << 14;
+
+// The least slope with which a variable enters.
+const LEAST_SLOPE: u64 = 1 << 12;
+
+// Ratios no farther apart count as one.
+const SAME_RATIO: u64 = 1 << 6;
+
+// Entries of a pivot line below this count as 0.
+const LEAST_ENTRY: u64 = 1 << 6;
+
+/// A variable: a column, or by how much a row passes what it has to reach.
+#[derive(Clone, Copy, Debug)]
+pub enum Variable {
+    Column(u32),
+    Surplus(u32),
+}
+
+/// A variable at a bound.
+#[derive(Clone, Copy, Debug)]
+pub struct Nonbasic {
+    /// Which variable.
+    pub variable: Variable,
+    /// Whether it stands at its upper bound, which is one, and not at 0.
+    pub at_upper: bool,
+}
+
+/// A variable that is written in those at a bound.
+#[derive(Debug, Drop)]
+pub struct Line {
+    /// Which variable.
+    pub variable: Variable,
+    /// Its value.
+    pub value: i64,
+    /// How much it rises with each variable at a bound.
+    pub entries: Vec<i64>,
+}
+
+/// A basic variable beyond a bound.
+#[derive(Clone, Copy, Debug)]
+pub struct Leaving {
+    /// The place of its line.
+    pub place: usize,
+    /// Whether it is above its upper bound, and not below 0.
+    pub is_above: bool,
+}
+
+/// The variable at a bound that enters.
+#[derive(Clone, Copy, Debug)]
+pub struct Entering {
+    /// Its place.
+    pub place: usize,
+    /// How much the leaving variable rises with it.
+    pub slope: i64,
+}
+
+// An entry of a pivot line that isn't 0.
+#[derive(Clone, Copy, Debug)]
+struct Term {
+    place: usize,
+    entry: i64,
+}
+
+// A variable that may enter, with the size of its price for each unit of the leaving one.
+#[derive(Clone, Copy, Debug)]
+struct Choice {
+    entering: Entering,
+    ratio: i64,
+}
+
+/// The lines.
+#[derive(Debug, Drop)]
+pub struct Tableau {
+    /// The variables at a bound.
+    pub nonbasics: Vec<Nonbasic>,
+    /// How much the cost rises with each of them.
+    pub prices: Vec<i64>,
+    /// The others. Their entries past the last variable at a bound are 0.
+    pub lines: Vec<Line>,
+    /// The cost.
+    pub value: i64,
+    // Room for the terms of a pivot line, so that a pivot takes no memory.
+    terms: Vec<Term>,
+}
+
+impl Nonbasic {
+    /// The bound at which it stands.
+    pub fn bound(self) -> i64 {
+        if self.at_upper { ONE } else { 0 }
+    }
+
+    // Whether moving it off its bound brings a variable back that rises with it by this slope.
+    fn brings_back(self, slope: i64, is_above: bool) -> bool {
+        slope.unsigned_abs() >= LEAST_SLOPE && (slope > 0) != (self.at_upper != is_above)
+    }
+}
+
+impl Line {
+    // By how much the variable is beyond a bound, and whether it is the upper one.
+    fn miss(&self) -> (i64, bool) {
+        match self.variable {
+            Variable::Column(_) if self.value > ONE => (self.value.wrapping_sub(ONE), true),
+            _ => (self.value.wrapping_neg(), false),
+        }
+    }
+
+    /// Adds a whole multiple of a variable at a bound.
+    pub fn add_nonbasic(&mut self, coefficient: i64, place: usize, nonbasic: Nonbasic) {
+        if let Some(slot) = self.entries.get_mut(place) {
+            *slot = slot.wrapping_add(whole(coefficient));
+        }
+        self.value = self
+            .value
+            .wrapping_add(coefficient.wrapping_mul(nonbasic.bound()));
+    }
+
+    /// Adds a whole multiple of a variable that is written in those at a bound.
+    pub fn add_basic(&mut self, coefficient: i64, other: &Line) {
+        for (slot, entry) in self.entries.iter_mut().zip(&other.entries) {
+            *slot = slot.wrapping_add(coefficient.wrapping_mul(*entry));
+        }
+        self.value = self
+            .value
+            .wrapping_add(coefficient.wrapping_mul(other.value));
+    }
+}
+
+impl Tableau {
+    /// No variables.
+    pub fn new(alloc: Global) -> Tableau {
+        Tableau {
+            nonbasics: Vec::new(alloc),
+            prices: Vec::new(alloc),
+            lines: Vec::new(alloc),
+            value: 0,
+            terms: Vec::new(alloc),
+        }
+    }
+
+    /// Takes out all variables.
+    pub fn clear(&mut self) {
+        self.nonbasics.clear();
+        self.prices.clear();
+        self.lines.clear();
+        self.value = 0;
+    }
+
+    /// Adds a variable at 0. Where it fails, nothing has changed but how far the lines go on with 0.
+    pub fn add_nonbasic(&mut self, variable: Variable, cost: i64) -> Result<(), AllocError> {
+        let count = self.nonbasics.len() + 1;
+        for line in self.lines.iter_mut() {
+            line.entries.resize(count, 0)?;
+        }
+        self.terms.resize(count, Term { place: 0, entry: 0 })?;
+        self.nonbasics.reserve(1)?;
+        self.prices.reserve(1)?;
+        self.nonbasics.push_reserved(Nonbasic {
+            variable,
+            at_upper: false,
+        });
+        self.prices.push_reserved(cost);
+        Ok(())
+    }
+
+    /// The variable that leaves: the one farthest beyond a bound, or the first beyond one.
+    pub fn leaving(&self, takes_first: bool) -> Option<Leaving> {
+        let mut farthest = None;
+        let mut greatest = LEAST_MISS;
+        for (place, line) in self.lines.iter().enumerate() {
+            let (miss, is_above) = line.miss();
+            if miss > greatest {
+                greatest = miss;
+                farthest = Some(Leaving { place, is_above });
+                if takes_first {
+                    return farthest;
+                }
+            }
+        }
+        farthest
+    }
+
+    /// The variable that enters: of those that bring the leaving one back, the one that costs least a unit.
+    pub fn entering(&self, leaving: Leaving) -> Option<Entering> {
+        let line = self.lines.get(leaving.place)?;
+        let mut best: Option<Choice> = None;
+        for (place, nonbasic) in self.nonbasics.iter().enumerate() {
+            let slope = entry(line.entries.as_slice(), place);
+            if nonbasic.brings_back(slope, leaving.is_above) {
+                let ratio = ratio(entry(self.prices.as_slice(), place), slope);
+                let entering = Entering { place, slope };
+                let choice = Choice { entering, ratio };
+                if best.is_none_or(|other| is_better(choice, other)) {
+                    best = Some(choice);
+                }
+            }
+        }
+        best.map(|choice| choice.entering)
+    }
+
+    /// Puts the leaving variable at the bound that it is beyond, and writes the entering one in those at a
+    /// bound. It answers the one that left and the one that entered.
+    pub fn pivot(&mut self, leaving: Leaving, entering: Entering) -> Option<(Variable, Variable)> {
+        let line = self.lines.get_mut(leaving.place)?;
+        let nonbasic = self.nonbasics.get_mut(entering.place)?;
+        let (left, entered) = (line.variable, *nonbasic);
+        let bound = if leaving.is_above { ONE } else { 0 };
+        let step = quotient(bound.wrapping_sub(line.value), entering.slope);
+        solve_for(line.entries.as_mut_slice(), entering);
+        let count = list_terms(line.entries.as_slice(), self.terms.as_mut_slice());
+        line.variable = entered.variable;
+        line.value = entered.bound().wrapping_add(step);
+        *nonbasic = Nonbasic {
+            variable: left,
+            at_upper: leaving.is_above,
+        };
+        self.substitute(leaving.place, entering.place, step, count);
+        Some((left, entered.variable))
+    }
+
+    // Writes the variable that entered by its terms, in the lines but its own and in the prices.
+    fn substitute(&mut self, leaving: usize, entering: usize, step: i64, count: usize) {
+        let terms = self.terms.get(..count).unwrap_or(&[]);
+        for (place, line) in self.lines.iter_mut().enumerate() {
+            if place != leaving {
+                let factor = take_entry(line.entries.as_mut_slice(), entering);
+                if factor != 0 {
+                    line.value = line.value.wrapping_add(product(factor, step));
+                    add_times(line.entries.as_mut_slice(), factor, terms);
+                }
+            }
+        }
+        let price = take_entry(self.prices.as_mut_slice(), entering);
+        self.value = self.value.wrapping_add(product(price, step));
+        add_times(self.prices.as_mut_slice(), price, terms);
+    }
+}
+
+// The size of the price for each unit of the leaving variable.
+fn ratio(price: i64, slope: i64) -> i64 {
+    if price == 0 {
+        0
+    } else {
+        quotient(price, slope).saturating_abs()
+    }
+}
+
+// Whether the ratio is less, or is the same and the slope is greater.
+fn is_better(choice: Choice, other: Choice) -> bool {
+    let gap = choice.ratio.saturating_sub(other.ratio);
+    if gap.unsigned_abs() <= SAME_RATIO {
+        choice.entering.slope.unsigned_abs() > other.entering.slope.unsigned_abs()
+    } else {
+        gap < 0
+    }
+}
+
+// Turns the leaving variable's entries into the entering one's.
+fn solve_for(entries: &mut [i64], entering: Entering) {
+    for slot in entries.iter_mut() {
+        if *slot != 0 {
+            let entry = quotient(*slot, entering.slope).wrapping_neg();
+            *slot = if entry.unsigned_abs() < LEAST_ENTRY {
+                0
+            } else {
+                entry
+            };
+        }
+    }
+    if let Some(slot) = entries.get_mut(entering.place) {
+        *slot = quotient(ONE, entering.slope);
+    }
+}
+
+// Lists the entries that aren't 0, and answers how many there are.
+fn list_terms(entries: &[i64], terms: &mut [Term]) -> usize {
+    let mut count = 0;
+    for (place, entry) in entries.iter().enumerate() {
+        if *entry != 0 {
+            if let Some(term) = terms.get_mut(count) {
+                *term = Term {
+                    place,
+                    entry: *entry,
+                };
+                count += 1;
+            }
+        }
+    }
+    count
+}
+
+// Adds the factor times the terms.
+fn add_times(entries: &mut [i64], factor: i64, terms: &[Term]) {
+    for term in terms {
+        if let Some(slot) = entries.get_mut(term.place) {
+            *slot = slot.wrapping_add(product(factor, term.entry));
+        }
+    }
+}
+
+/// The entry at the place, and 0 past the end.
+pub fn entry(entries: &[i64], place: usize) -> i64 {
+    entries.get(place).copied().unwrap_or(0)
+}
+
+// Takes the entry out.
+fn take_entry(entries: &mut [i64], place: usize) -> i64 {
+    match entries.get_mut(place) {
+        Some(slot) => {
+            let taken = *slot;
+            *slot = 0;
+            taken
+        }
+        None => 0,
+    }
+}
