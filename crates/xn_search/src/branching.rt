@@ -64,8 +64,9 @@ pub fn counted(alloc: Global, graph: &Graph, drawing: Drawing) -> Result<Drawn, 
     Ok(Drawn { drawing, crossings })
 }
 
-// The node that a row of the state asks for; a leaf takes the row.
-fn by_row(
+/// The node that a row of the state asks for: its first open pair, else the first edge that has to be placed, else the
+/// leaf that takes the row, which then comes behind the known ones. It fails only for want of memory.
+pub fn by_row(
     alloc: Global,
     claim: &Claim,
     given: &Given,
@@ -165,8 +166,8 @@ fn open_partner(graph: &Graph, given: &Given, edges: &[u32], i: usize) -> Option
     None
 }
 
-// Whether the pair of two edges, the smaller first, is independent and undecided.
-fn is_open(graph: &Graph, given: &Given, e: u32, f: u32) -> bool
+/// Whether the pair of two edges, the smaller first, is independent and undecided.
+pub fn is_open(graph: &Graph, given: &Given, e: u32, f: u32) -> bool
     requires graph { given.now.graph ≡ graph.now }
     requires rises { e < f }
     requires below { f < length graph.now.ends }

@@ -11,7 +11,7 @@ mod solving;
 #[cfg(test)]
 mod tests;
 
-pub use branching::{ByPlanting, counted};
+pub use branching::{ByPlanting, by_row, counted, is_open};
 pub use decisions::{Claim, Decider, Decision, Drawn};
 pub use searches::{Searched, search};
 pub use solved::{Solved, Work, solve_from};
