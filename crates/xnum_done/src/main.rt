@@ -1,4 +1,4 @@
-//! The program once more, on an answer whose drawing it accepts.
+//! The program once more, on a graph without nodes: it solves it.
 #![tactic(auto)]
 
 use std::process::ExitCode;
