@@ -11,5 +11,5 @@ invariant-loop-i l = l.ends.items ≡ map (rim_edge l.nodes) (range_with_len 0 l
 abbrev pub invariant-loop : goal.invariant-loop
 invariant-loop l = record {
   ends : l.ends.items ≡ map (rim_edge l.nodes) (range_with_len 0 l.nodes) ++ map (chord l.nodes) (range_with_len 0 l.counter);
-  draws : l.draws ≡ state_after l.nodes (2 * l.counter)
+  draws : l.draws ≡ state_after l.nodes (2 * l.counter);
 }
