@@ -105,7 +105,7 @@ impl Planes for Pentagon {
     }
 
     fn upper(&mut self, alloc: Global, graph: &Graph) -> Result<Drawing, AllocError> {
-        let drawing = pentagon(alloc)?;
+        let drawing = pentagon_of_k5(alloc)?;
         match examine(alloc, graph, &drawing) {
             Ok(_) => Ok(drawing),
             Err(_) => {
@@ -117,7 +117,7 @@ impl Planes for Pentagon {
 }
 
 /// K5 drawn as a pentagon and its diagonals.
-fn pentagon(alloc: Global) -> Result<Drawing, AllocError> {
+fn pentagon_of_k5(alloc: Global) -> Result<Drawing, AllocError> {
     let mut lists = Vec::new(alloc);
     for (first, second) in [
         (0u32, 0u32),
