@@ -4,8 +4,8 @@ ghost use Rattle.xn_sample.specs.Sample.{next_state};
 
 use std::marker::Model;
 
-/// Numbers drawn one after the other, by a linear congruence: each state is 75 times the one before and 74 more, modulo
-/// 65537.
+/// Numbers drawn one after the other, by a linear congruence: each state is 75 times the one before and 74
+/// more, modulo 65537.
 #[derive(Debug, Drop)]
 pub struct Draws {
     state: u32,

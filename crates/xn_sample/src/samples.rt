@@ -6,8 +6,8 @@ use crate::draws::Draws;
 use std::alloc::{AllocError, Global};
 use xn_graph::Graph;
 
-/// The sample graph of so many nodes, from 3 to 400: a cycle through all of them in order, and then half as many chords,
-/// rounded down, whose ends are drawn. It has no loop, and may have parallel edges.
+/// The sample graph of so many nodes, from 3 to 400: a cycle through all of them in order, and then half as
+/// many chords, rounded down, whose ends are drawn. It has no loop, and may have parallel edges.
 ///
 /// It fails only for want of memory.
 pub fn sample(alloc: Global, nodes: u32) -> Result<Graph, AllocError>
@@ -37,7 +37,7 @@ fn sample_ends(alloc: Global, nodes: u32) -> Result<Vec<(u32, u32)>, AllocError>
     Ok(ends)
 }
 
-// The chord between the next two nodes that are drawn, or between the first of them and its successor where they are one.
+// The chord between the next two nodes that are drawn, or to the node after the first where they are one.
 fn next_chord(draws: &mut Draws, nodes: u32) -> (u32, u32)
     requires { (0 < nodes) × (nodes ≤ 400) }
     ensures state { draws.new ≡ next_state (next_state draws.old) }
