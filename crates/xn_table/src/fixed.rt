@@ -23,6 +23,20 @@ pub fn quotient(a: i64, b: i64) -> i64 {
     nearest(((a as i128) << BITS).wrapping_div(b as i128))
 }
 
+/// The square, with 72 bits after the point.
+pub fn square(a: i64) -> i128 {
+    (a as i128).wrapping_mul(a as i128)
+}
+
+/// The quotient of two squares, with 36 bits after the point; 0 where the divisor is below 2^-36.
+pub fn quotient_of_squares(a: i128, b: i128) -> i128 {
+    let divisor = b >> BITS;
+    if divisor == 0 {
+        return 0;
+    }
+    a.wrapping_div(divisor)
+}
+
 /// A whole number, or the nearest number of 64 bits.
 pub fn whole(number: i64) -> i64 {
     nearest((number as i128) << BITS)

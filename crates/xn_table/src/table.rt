@@ -10,11 +10,11 @@ use std::marker::Model;
 // The greatest number of columns, and of rows.
 const MOST: usize = u32::MAX as usize;
 
-// The pivots of one call: so many at most, and after the lesser number no longer by the greatest miss, which
+// The pivots of one call: so many at most, and after the lesser number no longer by the steepest edge, which
 // may go round in a circle.
 const MOST_PIVOTS: u32 = 20_000;
 
-const MOST_BY_MISS: u32 = 2_000;
+const MOST_BY_EDGE: u32 = 2_000;
 
 /// How a call of `solve` ended.
 #[derive(Clone, Copy, Debug, PartialEq, Eq)]
@@ -143,7 +143,7 @@ impl Table {
             if self.tableau.value > limit {
                 return Outcome::Passed;
             }
-            let Some(leaving) = self.tableau.leaving(pivot >= MOST_BY_MISS) else {
+            let Some(leaving) = self.tableau.leaving(pivot >= MOST_BY_EDGE) else {
                 return Outcome::Best;
             };
             let Some(entering) = self.tableau.entering(leaving) else {

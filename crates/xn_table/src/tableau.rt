@@ -1,7 +1,7 @@
 // The lines of the simplex method: the variables that stand at no bound, written in those that do. A place
 // past the end of a list is answered by 0 or by nothing, so that no call asks anything of its caller.
 
-use crate::fixed::{ONE, product, quotient, whole};
+use crate::fixed::{ONE, product, quotient, quotient_of_squares, square, whole};
 use std::alloc::{AllocError, Global};
 
 // By how much a variable has to miss a bound before it leaves.
@@ -111,6 +111,17 @@ impl Line {
         }
     }
 
+    // What a pivot with this miss gains: the square of the miss over that of the length of the line, the
+    // variable itself among its entries (Forrest and Goldfarb, Steepest-edge simplex algorithms for linear
+    // programming, Mathematical Programming 57, 1992).
+    fn gain(&self, miss: i64) -> i128 {
+        let mut length = square(ONE);
+        for entry in self.entries.iter() {
+            length = length.wrapping_add(square(*entry));
+        }
+        quotient_of_squares(square(miss), length)
+    }
+
     /// Adds a whole multiple of a variable at a bound.
     pub fn add_nonbasic(&mut self, coefficient: i64, place: usize, nonbasic: Nonbasic) {
         if let Some(slot) = self.entries.get_mut(place) {
@@ -169,21 +180,23 @@ impl Tableau {
         Ok(())
     }
 
-    /// The variable that leaves: the one farthest beyond a bound, or the first beyond one.
+    /// The variable that leaves: of those beyond a bound the one with the steepest edge, or the first.
     pub fn leaving(&self, takes_first: bool) -> Option<Leaving> {
-        let mut farthest = None;
-        let mut greatest = LEAST_MISS;
+        let mut best: Option<(Leaving, i128)> = None;
         for (place, line) in self.lines.iter().enumerate() {
             let (miss, is_above) = line.miss();
-            if miss > greatest {
-                greatest = miss;
-                farthest = Some(Leaving { place, is_above });
+            if miss > LEAST_MISS {
+                let leaving = Leaving { place, is_above };
                 if takes_first {
-                    return farthest;
+                    return Some(leaving);
+                }
+                let gain = line.gain(miss);
+                if best.is_none_or(|(_, greatest)| gain > greatest) {
+                    best = Some((leaving, gain));
                 }
             }
         }
-        farthest
+        best.map(|(leaving, _)| leaving)
     }
 
     /// The variable that enters: of those that bring the leaving one back, the one that costs least a unit.
