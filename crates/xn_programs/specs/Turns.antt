@@ -6,8 +6,8 @@ use Rattle.xn_kinds.specs.State.{State}
 use Rattle.xn_kinds.specs.Tree.{MayOpen}
 use Rattle.xn_kinds.specs.declared.rows.Row.{Row}
 use Rattle.xn_search.specs.Choice.{GrowsTo}
-use Rattle.xn_programs.specs.declared.turns.Turn.{Turn}
-use Rattle.xn_programs.specs.declared.turns.Turn.TheVariants.{Closed, Open, Lost}
+use Rattle.xn_programs.specs.declared.leaves.Turn.{Turn}
+use Rattle.xn_programs.specs.declared.leaves.Turn.TheVariants.{Closed, Open, Lost}
 
 -- a leaf keeps its rule in a proof of t
 abbrev pub IsTurn : Graph → ℕ → List Row → State → Turn → Type 0

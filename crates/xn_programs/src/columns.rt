@@ -1,4 +1,6 @@
 // The variables of a state: which of them are fixed, which are columns of its program, and the point.
+ghost use Rattle.std.specs.Prelude.{◌≡◌};
+
 use crate::lines::{Lines, Order, Term, pair_number};
 use std::alloc::{AllocError, Global};
 use xn_graph::Graph;
@@ -59,7 +61,9 @@ impl Columns {
         given: &Given,
         pairs: &[(u32, u32)],
         lines: &Lines,
-    ) -> Result<(), AllocError> {
+    ) -> Result<(), AllocError>
+        requires { given.now.graph ≡ graph.now }
+    {
         self.clear(graph.edges() as usize, lines.orders().len())?;
         for (e, f) in pairs {
             let entry = pair_entry(graph, given, *e, *f);
@@ -111,9 +115,10 @@ impl Columns {
 
     /// No columns are left; the point stays.
     pub fn free(&mut self) {
-        for i in 0..self.variables.len() {
-            let variable = self.variables[i] as usize;
-            self.set(variable, Entry::Free);
+        for variable in self.variables.as_slice() {
+            if let Some(entry) = self.entries.get_mut(*variable as usize) {
+                *entry = Entry::Free;
+            }
         }
         self.variables.clear();
     }

@@ -6,6 +6,7 @@ ghost use Rattle.xn_kinds.specs.Row.{RowHolds};
 ghost use Rattle.xn_kinds.specs.State.{IsState};
 ghost use Rattle.xn_kinds.specs.Tree.{MayOpen};
 ghost use Rattle.xn_tree.specs.Given.{state_of};
+ghost use Rattle.xn_programs.specs.Turns.{IsTurn};
 
 use crate::programs::Program;
 use std::alloc::{AllocError, Global};
@@ -30,6 +31,17 @@ const RAY_SCALES: [u64; 8] = [
 /// The most parts of a leaf.
 const MOST_PARTS: usize = 1 << 20;
 
+/// What one turn comes to.
+#[derive(Drop)]
+pub enum Turn {
+    /// The state is closed by this leaf.
+    Closed(Node),
+    /// The program has a point, which doesn't close it.
+    Open,
+    /// The program gave neither a point nor a leaf.
+    Lost,
+}
+
 /// A leaf of the rows of a program with its prices, where one closes the state.
 pub fn by_prices(
     alloc: Global,
@@ -37,18 +49,18 @@ pub fn by_prices(
     given: &Given,
     rows: &[Row],
     program: &Program,
-) -> Result<Option<Node>, AllocError>
+) -> Result<Turn, AllocError>
     requires graph { given.now.graph ≡ claim.now.graph.now }
     requires hold { All (RowHolds claim.now.graph.now) rows.now }
-    ensures { IfOk result (λ r. IfSome r (MayOpen claim.now.graph.now claim.now.crossings rows.now (state_of given.now))) }
+    ensures { IfOk result (IsTurn claim.now.graph.now claim.now.crossings rows.now (state_of given.now)) }
 {
     for d in SCALES {
         let parts = program.priced(alloc, d)?;
         if let Some(leaf) = judged(claim, given, rows, d, parts) {
-            return Ok(Some(leaf));
+            return Ok(Turn::Closed(leaf));
         }
     }
-    Ok(None)
+    Ok(Turn::Lost)
 }
 
 /// A leaf of rows that have no point in the box, where one closes the state.
@@ -58,18 +70,18 @@ pub fn by_ray(
     given: &Given,
     rows: &[Row],
     program: &Program,
-) -> Result<Option<Node>, AllocError>
+) -> Result<Turn, AllocError>
     requires graph { given.now.graph ≡ claim.now.graph.now }
     requires hold { All (RowHolds claim.now.graph.now) rows.now }
-    ensures { IfOk result (λ r. IfSome r (MayOpen claim.now.graph.now claim.now.crossings rows.now (state_of given.now))) }
+    ensures { IfOk result (IsTurn claim.now.graph.now claim.now.crossings rows.now (state_of given.now)) }
 {
     for scale in RAY_SCALES {
         let parts = program.rayed(alloc, scale)?;
         if let Some(leaf) = judged(claim, given, rows, 1, parts) {
-            return Ok(Some(leaf));
+            return Ok(Turn::Closed(leaf));
         }
     }
-    Ok(None)
+    Ok(Turn::Lost)
 }
 
 /// A leaf of one row, where it closes the state.
@@ -79,14 +91,17 @@ pub fn by_row_alone(
     given: &Given,
     rows: &[Row],
     number: u32,
-) -> Result<Option<Node>, AllocError>
+) -> Result<Turn, AllocError>
     requires graph { given.now.graph ≡ claim.now.graph.now }
     requires hold { All (RowHolds claim.now.graph.now) rows.now }
-    ensures { IfOk result (λ r. IfSome r (MayOpen claim.now.graph.now claim.now.crossings rows.now (state_of given.now))) }
+    ensures { IfOk result (IsTurn claim.now.graph.now claim.now.crossings rows.now (state_of given.now)) }
 {
     let part = (number, u64::from(claim.crossings));
     let parts = vec![in alloc; part]?;
-    Ok(judged(claim, given, rows, 1, parts))
+    match judged(claim, given, rows, 1, parts) {
+        Some(leaf) => Ok(Turn::Closed(leaf)),
+        None => Ok(Turn::Lost),
+    }
 }
 
 // The leaf with these parts, where their numbers are in range and its bound shows that it closes the state.

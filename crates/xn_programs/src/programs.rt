@@ -1,5 +1,7 @@
 // The linear program of a state: the least number of crossings over the box of the state, where the rows that it takes
 // have at least the value 1.
+ghost use Rattle.std.specs.Prelude.{◌≡◌};
+
 use crate::columns::{Columns, Entry, Outlook};
 use crate::lines::{Lines, Term};
 use std::alloc::{AllocError, Global};

@@ -7,7 +7,7 @@ ghost use Rattle.xn_tree.specs.Given.{state_of};
 ghost use Rattle.xn_programs.specs.Turns.{IsGrown, IsTurn};
 
 use crate::hints::{Hints, Worth};
-use crate::leaves::{by_prices, by_ray, by_row_alone};
+use crate::leaves::{Turn, by_prices, by_ray, by_row_alone};
 use std::alloc::{AllocError, Global};
 use xn_cutter::Cutter;
 use xn_graph::Graph;
@@ -18,17 +18,6 @@ use xn_tree::Given;
 
 /// Rows of cutters are kept while fewer than this are known.
 const MOST_KNOWN: usize = 800_000;
-
-/// What one turn comes to.
-#[derive(Drop)]
-pub enum Turn {
-    /// The state is closed by this leaf.
-    Closed(Node),
-    /// The program has a point, which doesn't close it.
-    Open,
-    /// The program gave neither a point nor a leaf.
-    Lost,
-}
 
 /// Solves the program of a state and asks cutters, at most so many times: the leaf that closes the state, where one is
 /// found. Rows that hold come behind the known ones.
@@ -111,16 +100,32 @@ pub fn keep(
 {
     let worth = hints.weigh(graph, &row)?;
     let is_wanted = worth == Worth::Now || is_own && worth == Worth::Later;
-    if !is_wanted || rows.len() >= MOST_KNOWN {
+    if !is_wanted {
         hints.forget();
         return Ok(false);
     }
-    rows.push(row)?;
+    if !push_row(graph, row, rows)? {
+        hints.forget();
+        return Ok(false);
+    }
     if worth == Worth::Now {
         hints.use_last()?;
         return Ok(true);
     }
     Ok(false)
+}
+
+// A row that holds comes behind the known ones, where few are known: whether that is so.
+fn push_row(graph: &Graph, row: Row, rows: &mut Vec<Row>) -> Result<bool, AllocError>
+    requires row { RowHolds graph.now row }
+    requires hold { All (RowHolds graph.now) rows.old.items }
+    ensures { IfOk result (λ _. IsGrown graph.now rows.old.items rows.new.items) }
+{
+    if rows.len() >= MOST_KNOWN {
+        return Ok(false);
+    }
+    rows.push(row)?;
+    Ok(true)
 }
 
 // One turn: the program is solved, and closes the state or doesn't.
@@ -136,27 +141,12 @@ fn solve_once(
     ensures { IfOk result (IsTurn claim.now.graph.now claim.now.crossings rows.now (state_of given.now)) }
 {
     if let Some(number) = hints.program().hopeless() {
-        let leaf = by_row_alone(alloc, claim, given, rows, number)?;
-        return Ok(closed(leaf));
+        return by_row_alone(alloc, claim, given, rows, number);
     }
     match hints.program_mut().solve(claim.crossings) {
         Outcome::Best => Ok(Turn::Open),
         Outcome::Stalled => Ok(Turn::Lost),
-        Outcome::Passed => {
-            let leaf = by_prices(alloc, claim, given, rows, hints.program())?;
-            Ok(closed(leaf))
-        }
-        Outcome::Nothing => {
-            let leaf = by_ray(alloc, claim, given, rows, hints.program())?;
-            Ok(closed(leaf))
-        }
-    }
-}
-
-// The leaf closes the state, where there is one.
-fn closed(leaf: Option<Node>) -> Turn {
-    match leaf {
-        Some(leaf) => Turn::Closed(leaf),
-        None => Turn::Lost,
+        Outcome::Passed => by_prices(alloc, claim, given, rows, hints.program()),
+        Outcome::Nothing => by_ray(alloc, claim, given, rows, hints.program()),
     }
 }
