@@ -4,14 +4,16 @@ ghost use Rattle.xn_kinds.specs.Row.{RowHolds};
 ghost use Rattle.xn_kinds.specs.State.{IsState};
 ghost use Rattle.xn_kinds.specs.Tree.{MayOpen};
 ghost use Rattle.xn_tree.specs.Given.{state_of};
+ghost use Rattle.xn_cutter.specs.Point.{IsPoint};
 ghost use Rattle.xn_programs.specs.Turns.{IsGrown, IsTurn};
 
 use crate::hints::{Hints, Worth};
 use crate::leaves::{Turn, by_prices, by_ray, by_row_alone};
 use std::alloc::{AllocError, Global};
 use xn_cutter::Cutter;
+use xn_frac::Frac;
 use xn_graph::Graph;
-use xn_kinds::{Node, Row};
+use xn_kinds::{Node, Row, Var};
 use xn_search::Claim;
 use xn_table::Outcome;
 use xn_tree::Given;
@@ -72,17 +74,36 @@ fn goes_on(
     let point = hints.point(alloc, claim.graph, pairs)?;
     let has_middle = hints.program().columns().has_middle();
     for cutter in cutters.iter_mut() {
-        let cut = cutter.cut(alloc, claim.graph, given, point.as_slice())?;
-        if let Some(row) = cut {
-            if keep(claim.graph, row, rows, hints, false)? {
-                return Ok(true);
-            }
+        if ask(cutter, alloc, claim, given, point.as_slice(), rows, hints)? {
+            return Ok(true);
         }
         if !has_middle {
-            break;
+            return Ok(false);
         }
     }
     Ok(false)
+}
+
+// Whether a cutter gave a row that is new and missed at the point, which then came in.
+fn ask(
+    cutter: &mut Box<dyn Cutter>,
+    alloc: Global,
+    claim: &Claim,
+    given: &Given,
+    point: &[(Var, Frac)],
+    rows: &mut Vec<Row>,
+    hints: &mut Hints,
+) -> Result<bool, AllocError>
+    requires graph { given.now.graph ≡ claim.now.graph.now }
+    requires state { IsState claim.now.graph.now (state_of given.now) }
+    requires point { IsPoint claim.now.graph.now point.now }
+    requires hold { All (RowHolds claim.now.graph.now) rows.old.items }
+    ensures grown { IfOk result (λ _. IsGrown claim.now.graph.now rows.old.items rows.new.items) }
+{
+    match cutter.cut(alloc, claim.graph, given, point)? {
+        None => Ok(false),
+        Some(row) => keep(claim.graph, row, rows, hints, false),
+    }
 }
 
 /// A row that holds comes behind the known ones if it is new and missed at the point, or new and the state's own; none
