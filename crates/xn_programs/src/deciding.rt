@@ -3,10 +3,12 @@ ghost use Rattle.std.specs.Prelude.{◌≡◌, ◌+◌, ◌<◌, ◌≤◌, ◌^
 ghost use Rattle.xn_kinds.specs.Row.{RowHolds};
 ghost use Rattle.xn_kinds.specs.State.{IsState};
 ghost use Rattle.xn_kinds.specs.Tree.{MayOpen};
+ghost use Rattle.xn_effort.specs.Potential.{ones_in};
 ghost use Rattle.xn_tree.specs.Given.{state_of};
 ghost use Rattle.xn_plant.specs.Planting.{IsRowOfState};
 ghost use Rattle.xn_search.specs.Branching.{IsOpenPair};
-ghost use Rattle.xn_search.specs.Choice.{GrowsTo};
+ghost use Rattle.xn_search.specs.Choice.{GrowsTo, IsDecision};
+ghost use Rattle.xn_programs.specs.Turns.{IsGrown};
 
 use crate::hints::Hints;
 use crate::turns::{keep, turns};
@@ -68,26 +70,84 @@ impl<P: Planes> ByPrograms<P> {
         ensures keeps { IfOk result (MayOpen claim.now.graph.now claim.now.crossings rows.new.items (state_of given.now)) }
     {
         let own = row.copy(alloc)?;
-        if keep(claim.graph, own, rows, &mut self.hints, true)? {
-            let leaf = turns(
-                alloc,
-                claim,
-                given,
-                pairs,
-                rows,
-                &mut self.hints,
-                &mut self.cutters,
-                TURNS_AFTER,
-            )?;
-            if let Some(leaf) = leaf {
-                return Ok(leaf);
-            }
+        let leaf = self.with_own(alloc, claim, given, pairs, own, rows)?;
+        if let Some(leaf) = leaf {
+            return Ok(leaf);
         }
         let greatest = self.hints.greatest(claim.graph, pairs);
         if let Some((e, f)) = open_of(claim.graph, given, greatest) {
             return Ok(Node::Pair(e, f));
         }
-        by_row(alloc, claim, given, row, rows)
+        let node = by_row(alloc, claim, given, row, rows)?;
+        Ok(node)
+    }
+
+    // The leaf that closes the state, where its program gives one with its own row.
+    fn with_own(
+        &mut self,
+        alloc: Global,
+        claim: &Claim,
+        given: &Given,
+        pairs: &[(u32, u32)],
+        own: Row,
+        rows: &mut Vec<Row>,
+    ) -> Result<Option<Node>, AllocError>
+        requires graph { given.now.graph ≡ claim.now.graph.now }
+        requires state { IsState claim.now.graph.now (state_of given.now) }
+        requires own { RowHolds claim.now.graph.now own }
+        requires hold { All (RowHolds claim.now.graph.now) rows.old.items }
+        ensures grown { IfOk result (λ _. IsGrown claim.now.graph.now rows.old.items rows.new.items) }
+        ensures closes { let g = claim.now.graph.now in
+            IfOk result (λ r. IfSome r (MayOpen g claim.now.crossings rows.new.items (state_of given.now))) }
+    {
+        if !keep(claim.graph, own, rows, &mut self.hints, true)? {
+            return Ok(None);
+        }
+        let leaf = turns(
+            alloc,
+            claim,
+            given,
+            pairs,
+            rows,
+            &mut self.hints,
+            &mut self.cutters,
+            TURNS_AFTER,
+        )?;
+        Ok(leaf)
+    }
+
+    // What is to be done in a state whose program gave no leaf: its crossings are planted.
+    fn planted(
+        &mut self,
+        alloc: Global,
+        claim: &Claim,
+        given: &Given,
+        pairs: &[(u32, u32)],
+        rows: &mut Vec<Row>,
+    ) -> Result<Decision, AllocError>
+        requires graph { given.now.graph ≡ claim.now.graph.now }
+        requires state { IsState claim.now.graph.now (state_of given.now) }
+        requires positive { 1 ≤ claim.now.crossings }
+        requires ones { ones_in claim.now.graph.now (state_of given.now) < claim.now.crossings }
+        requires hold { All (RowHolds claim.now.graph.now) rows.old.items }
+        requires room { length rows.old.items < 2 ^ 20 }
+        ensures more { IfOk result (λ _. GrowsTo rows.old.items rows.new.items) }
+        ensures hold { IfOk result (λ _. All (RowHolds claim.now.graph.now) rows.new.items) }
+        ensures few { IfOk result (λ _. length rows.new.items ≤ max (length rows.old.items) 800000 + 1) }
+        ensures decided { let g = claim.now.graph.now in
+            IfOk result (IsDecision g claim.now.crossings rows.new.items (state_of given.now)) }
+    {
+        match plant(alloc, claim.graph, given, &mut self.planes)? {
+            Planted::Flat(drawing) => {
+                let drawn = counted(alloc, claim.graph, drawing)?;
+                Ok(Decision::Found(drawn))
+            }
+            Planted::Excluded(row) => {
+                let node = self.open(alloc, claim, given, pairs, row, rows)?;
+                self.hints.opened(alloc, claim, given, &node)?;
+                Ok(Decision::Open(node))
+            }
+        }
     }
 }
 
@@ -116,17 +176,8 @@ impl<P: Planes> Decider for ByPrograms<P> {
             self.hints.opened(alloc, claim, given, &leaf)?;
             return Ok(Decision::Open(leaf));
         }
-        match plant(alloc, claim.graph, given, &mut self.planes)? {
-            Planted::Flat(drawing) => {
-                let drawn = counted(alloc, claim.graph, drawing)?;
-                Ok(Decision::Found(drawn))
-            }
-            Planted::Excluded(row) => {
-                let node = self.open(alloc, claim, given, pairs.as_slice(), row, rows)?;
-                self.hints.opened(alloc, claim, given, &node)?;
-                Ok(Decision::Open(node))
-            }
-        }
+        let decision = self.planted(alloc, claim, given, pairs.as_slice(), rows)?;
+        Ok(decision)
     }
 }
 
