@@ -25,14 +25,14 @@ const TURNS_BEFORE: u32 = 48;
 /// How often after that.
 const TURNS_AFTER: u32 = 16;
 
-/// Decides by linear programs of the known rows (after the branch and cut of Buchheim and others, 2008), with cutters
-/// that find more rows, and by planting where the program of a state doesn't close it.
+/// Decides by linear programs of the known rows (after the branch and cut of Buchheim and others, 2008), with
+/// cutters that find more rows, and by planting where the program of a state doesn't close it.
 #[derive(Drop)]
 pub struct ByPrograms<P> {
     /// What tests the webs.
     pub planes: P,
-    /// What finds rows, in the order in which they are asked: those after the first only where the point has a value from
-    /// 1/2 on below 1.
+    /// What finds rows, in the order in which they are asked: those after the first only where the point has
+    /// a value from 1/2 on below 1.
     pub cutters: Vec<Box<dyn Cutter>>,
     hints: Hints,
 }
@@ -47,8 +47,8 @@ impl<P: Planes> ByPrograms<P> {
         }
     }
 
-    // The node that opens a state whose own row is given: a leaf, the open pair of greatest value at the point, or what the
-    // row asks for.
+    // The node that opens a state whose own row is given: a leaf, the open pair of greatest value at the
+    // point, or what the row asks for.
     fn open(
         &mut self,
         alloc: Global,

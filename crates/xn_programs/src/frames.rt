@@ -1,13 +1,14 @@
 // The rows that bound in the state that a pending state comes from.
 use std::alloc::{AllocError, Global};
 
-/// For each pending state the rows that its program begins with. They are hints: whatever they are, what is decided
-/// stands.
+/// For each pending state the rows that its program begins with. They are hints: whatever they are, what is
+/// decided stands.
 #[derive(Drop)]
 pub struct Frames {
     // the number of crossings that the round is to prove
     crossings: u32,
-    // the numbers of rows of all frames, and for each pending state, the first one last, where its own begin and end
+    // the numbers of rows of all frames, and for each pending state, the first one last, where its own begin
+    // and end
     numbers: Vec<u32>,
     frames: Vec<(usize, usize)>,
     // those of the first state of the round before
@@ -27,8 +28,8 @@ impl Frames {
         }
     }
 
-    /// The rows of the first pending state, which is no longer pending; of the first state of a round where another
-    /// number of crossings is to be proved than before.
+    /// The rows of the first pending state, which is no longer pending; of the first state of a round where
+    /// another number of crossings is to be proved than before.
     pub fn take(&mut self, alloc: Global, crossings: u32) -> Result<Vec<u32>, AllocError> {
         self.is_at_root = crossings != self.crossings;
         if self.is_at_root {

@@ -15,7 +15,8 @@ use xn_list::Sequence;
 use xn_search::Claim;
 use xn_tree::{Given, bound};
 
-/// How many units of a multiplier one unit of a price is: where the first isn't exact enough, the next is tried.
+/// How many units of a multiplier one unit of a price is: where the first isn't exact enough, the next is
+/// tried.
 const SCALES: [u64; 3] = [1 << 16, 1 << 28, 1 << 40];
 /// The same for the parts of a ray.
 const RAY_SCALES: [u64; 8] = [

@@ -1,5 +1,5 @@
-//! The search with linear programs: a state is closed by multipliers that a program of the known rows gives, or
-//! branched where its point is greatest.
+//! The search with linear programs: a state is closed by multipliers that a program of the known rows gives,
+//! or branched where its point is greatest.
 #![tactic(auto)]
 
 mod columns;

@@ -24,8 +24,8 @@ pub struct Order {
     pub second: u32,
 }
 
-/// The known rows, in their order. A pair of edges has the number that its place in a square table has, and the orders
-/// that occur have the numbers behind these, as they came.
+/// The known rows, in their order. A pair of edges has the number that its place in a square table has, and
+/// the orders that occur have the numbers behind these, as they came.
 #[derive(Drop)]
 pub struct Lines {
     terms: Vec<Term>,

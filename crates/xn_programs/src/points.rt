@@ -11,8 +11,8 @@ use xn_graph::Graph;
 use xn_kinds::Var;
 use xn_table::ONE;
 
-/// The variables that aren't 0 at the point, the fixed ones too, with their values: the pairs, which are to be given in
-/// rising order, and the orders that occur in known rows.
+/// The variables that aren't 0 at the point, the fixed ones too, with their values: the pairs, which are to
+/// be given in rising order, and the orders that occur in known rows.
 pub fn point_of(
     alloc: Global,
     graph: &Graph,
@@ -53,8 +53,8 @@ fn orders_at(
     Ok(orders)
 }
 
-// A variable more, if its value isn't 0, its place is at least the next one, and it is one of the graph. Answers what is
-// the next place then.
+// A variable more, if its value isn't 0, its place is at least the next one, and it is one of the graph.
+// Answers what is the next place then.
 fn name(
     point: &mut Vec<(Var, Frac)>,
     next: u128,

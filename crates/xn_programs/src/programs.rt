@@ -1,5 +1,5 @@
-// The linear program of a state: the least number of crossings over the box of the state, where the rows that it takes
-// have at least the value 1.
+// The linear program of a state: the least number of crossings over the box of the state, where the rows that
+// it takes have at least the value 1.
 ghost use Rattle.std.specs.Prelude.{◌≡◌};
 
 use crate::columns::{Columns, Entry, Outlook};
@@ -71,7 +71,8 @@ impl Program {
         self.hopeless
     }
 
-    /// A known row comes in: it is left out where it can't be missed in the box, and noted where its value is 0 there.
+    /// A known row comes in: it is left out where it can't be missed in the box, and noted where its value is
+    /// 0 there.
     pub fn add(&mut self, lines: &Lines, number: u32) -> Result<(), AllocError> {
         let terms = lines.at(number as usize);
         match self.columns.outlook(terms) {
@@ -235,8 +236,8 @@ fn row_number(i: usize) -> u32 {
     u32::try_from(i).unwrap_or(u32::MAX)
 }
 
-// The cost of a variable: a little below 1 for a pair, and a little above 0 for an order, so that few points cost the
-// same.
+// The cost of a variable: a little below 1 for a pair, and a little above 0 for an order, so that few points
+// cost the same.
 fn cost(variable: u32, is_pair: bool) -> i64 {
     let little = i64::from((variable.wrapping_mul(2_654_435_761) >> 12) % 1009) * 681;
     if is_pair { ONE - little } else { little }

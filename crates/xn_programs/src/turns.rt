@@ -21,8 +21,8 @@ use xn_tree::Given;
 /// Rows of cutters are kept while fewer than this are known.
 const MOST_KNOWN: usize = 800_000;
 
-/// Solves the program of a state and asks cutters, at most so many times: the leaf that closes the state, where one is
-/// found. Rows that hold come behind the known ones.
+/// Solves the program of a state and asks cutters, at most so many times: the leaf that closes the state,
+/// where one is found. Rows that hold come behind the known ones.
 pub fn turns(
     alloc: Global,
     claim: &Claim,
@@ -106,8 +106,8 @@ fn ask(
     }
 }
 
-/// A row that holds comes behind the known ones if it is new and missed at the point, or new and the state's own; none
-/// where too many are known. Whether it is new and missed.
+/// A row that holds comes behind the known ones if it is new and missed at the point, or new and the state's
+/// own; none where too many are known. Whether it is new and missed.
 pub fn keep(
     graph: &Graph,
     row: Row,
