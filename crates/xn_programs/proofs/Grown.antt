@@ -1,0 +1,33 @@
+-- Rows that came behind the known ones, step by step.
+use Rattle.std.proofs.Common.{◌≡◌, ◌<◌, ◌∙◌, List, [], ◌∷◌, ◌++◌, length, sym, ap, subst, arith, append_assoc, append-nil, length-append}
+use Rattle.std.specs.Prelude.{All}
+use Rattle.std.proofs.lemmas.List.Elements.{All-push}
+use Rattle.xn_model.specs.Graph.{Graph}
+use Rattle.xn_kinds.specs.Row.{RowHolds}
+use Rattle.xn_kinds.specs.declared.rows.Row.{Row}
+use Rattle.xn_search.specs.Choice.{GrowsTo}
+use Rattle.xn_programs.specs.Turns.{IsGrown}
+
+-- none
+pub grown_none : (g : Graph) (rows : List Row) → All (RowHolds g) rows → IsGrown g rows rows
+grown_none g rows hold = record { more = ([], sym (append-nil rows)); hold = hold; few = omega arith }
+
+-- one
+pub grown_one : (g : Graph) (rows longer : List Row) (row : Row) → All (RowHolds g) rows → RowHolds g row → length rows < 800000 →
+    longer ≡ rows ++ row ∷ [] → IsGrown g rows longer
+grown_one g rows longer row hold holds few is = record {
+  more = (row ∷ [], is);
+  hold = subst (All (RowHolds g)) (sym is) (All-push (RowHolds g) rows row hold holds);
+  few = omega (arith, few, ap (length {A = Row}) is, length-append rows (row ∷ []));
+}
+
+-- some, and some more
+pub extends_more : (first rows longer : List Row) → GrowsTo first rows → GrowsTo rows longer → GrowsTo first longer
+extends_more first rows longer one two = (one.0 ++ two.0, two.1 ∙ ap (λ xs. xs ++ two.0) one.1 ∙ append_assoc first one.0 two.0)
+
+pub grown_more : (g : Graph) (first rows longer : List Row) → IsGrown g first rows → IsGrown g rows longer → IsGrown g first longer
+grown_more g first rows longer one two = record {
+  more = extends_more first rows longer one.more two.more;
+  hold = two.hold;
+  few = omega (arith, one.few, two.few);
+}
