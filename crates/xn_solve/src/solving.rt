@@ -30,6 +30,6 @@ pub fn solve(alloc: Global, graph: &Graph, budget: u64) -> Result<Solved, AllocE
     flat_graphs();
     let _nodes = graph.nodes();
     let mut decider = ByPlanting { planes: Maps };
-    let solved = xn_search::solve(alloc, graph, budget, &mut decider)?;
+    let solved = xn_search::solve(alloc, graph, budget, &mut Maps, &mut decider)?;
     Ok(solved)
 }

@@ -148,7 +148,7 @@ fn pentagon_of_k5(alloc: Global) -> Result<Drawing, AllocError> {
 fn planted(alloc: Global, nodes: u32, ends: &[(u32, u32)]) -> Result<(u32, u32, u64), Fail> {
     let graph = Graph::make(nodes, Vec::from_slice(alloc, ends)?)?;
     let mut decider = ByPlanting { planes: Pentagon };
-    let solved = xn_search::solve(alloc, &graph, 10_000, &mut decider)?;
+    let solved = xn_search::solve(alloc, &graph, 10_000, &mut Pentagon, &mut decider)?;
     let answer = answer_of(alloc, &graph, 0, 10_000, solved)?;
     Ok((answer.lower, answer.upper, answer.spent))
 }
