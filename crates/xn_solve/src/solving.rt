@@ -1,6 +1,7 @@
 // The search of a graph.
 ghost use Rattle.std.specs.Prelude.{◌≤◌, IfOk};
 ghost use Rattle.xn_fewer.specs.Flat.{HasFlat};
+ghost use Rattle.xn_model.specs.Drawing.{HasDrawingWith};
 ghost use Rattle.xn_search.specs.Solved.{IsFree, IsSolved};
 ghost use Rattle.xn_solve.specs.Answers.{Bounds, DecidesFromLimit, HasWellFormedAnswers};
 
@@ -40,10 +41,24 @@ pub fn solve(
     answers();
     flat_graphs();
     let _nodes = graph.nodes();
+    let solved = with_programs(alloc, graph, budget, cutters)?;
+    Ok(solved)
+}
+
+// The search by linear programs, which has the cutters until it ends.
+fn with_programs(
+    alloc: Global,
+    graph: &Graph,
+    budget: u64,
+    cutters: &mut Vec<Box<dyn Cutter>>,
+) -> Result<Solved, AllocError>
+    requires { budget ≤ 200000 }
+    ensures solved { IfOk result (IsSolved graph.now budget) }
+    ensures flat { HasDrawingWith graph.now 0 → IfOk result (IsFree graph.now) }
+{
     let lent = mem::replace(cutters, Vec::new(alloc));
     let mut decider = ByPrograms::new(alloc, Maps, lent);
     let searched = xn_search::solve(alloc, graph, budget, &mut Maps, &mut decider);
     mem::swap(cutters, &mut decider.cutters);
-    let solved = searched?;
-    Ok(solved)
+    searched
 }
