@@ -5,6 +5,7 @@
 mod files;
 mod judging;
 mod output;
+mod progress;
 mod running;
 mod searching;
 mod status;

@@ -9,16 +9,18 @@ ghost use Rattle.xn_app.specs.Exits.{Exits};
 use crate::telling::tell;
 use crate::top_call::top;
 use std::alloc::Global;
+use xn_cutter::Cutter;
 use xn_io::{Input, Sink};
 
 /// Does all that the program does, by `top`, says on a sink of errors why it ended so, and gives the exit code.
 ///
-/// The input and the sinks are whatever is handed in, as for `top`.
+/// The input, the sinks and the cutters are whatever is handed in, as for `top`.
 pub fn run<I: Input, K: Sink, E: Sink>(
     alloc: Global,
     words: &[String],
     input: &mut I,
     out: &mut K,
+    cutters: &mut Vec<Box<dyn Cutter>>,
     errors: &mut E,
 ) -> u8
     // There is an end of which all holds that `top` says, and code and line are those of this end.
@@ -55,6 +57,6 @@ pub fn run<I: Input, K: Sink, E: Sink>(
         → IfSome (I.told input.old)
         (λ files. SaysCrossingNumber (bytes_of files graph) budget (K.taken out.old) (K.taken out.new)) }
 {
-    let end = top(alloc, words, input, out);
+    let end = top(alloc, words, input, out, cutters);
     tell(end, errors)
 }

@@ -16,6 +16,7 @@ use crate::status::Status;
 use std::alloc::Global;
 use xn_check::laws::{accepted_bounds, drawn_texts, one_outcome, seen_texts};
 use xn_command::{Command, WordsErr, read_words};
+use xn_cutter::Cutter;
 use xn_io::{Input, Sink, write_all};
 
 /// Does all that the program does: reads the words, reads the files that they name, searches the graph or judges the
@@ -23,7 +24,14 @@ use xn_io::{Input, Sink, write_all};
 ///
 /// The words begin with the program's name. The input and the sink are whatever is handed in: what the clauses say
 /// of files and of bytes written holds where the input tells its files and the sink what it took.
-pub fn top<I: Input, K: Sink>(alloc: Global, words: &[String], input: &mut I, out: &mut K) -> Status
+/// The cutters help a search to decide more within its budget; each clause holds whatever they are, and where there is none.
+pub fn top<I: Input, K: Sink>(
+    alloc: Global,
+    words: &[String],
+    input: &mut I,
+    out: &mut K,
+    cutters: &mut Vec<Box<dyn Cutter>>,
+) -> Status
     // Words that ask for nothing are refused, unless memory is wanting; and no others.
     ensures no_words { IfNone (words_request words.now) ((result ≡ Status.Words) ⊎ (result ≡ Status.Memory)) }
     ensures words { IfSome (words_request words.now) (λ asked. (result ≡ Status.Words) → ⊥) }
@@ -77,7 +85,7 @@ pub fn top<I: Input, K: Sink>(alloc: Global, words: &[String], input: &mut I, ou
         Err(WordsErr::Refused) => return Status::Words,
         Err(WordsErr::Memory) => return Status::Memory,
     };
-    match work(alloc, command, input) {
+    match work(alloc, command, input, cutters) {
         Ok((status, output)) => finish(status, &output, out),
         Err(status) => status,
     }
@@ -88,6 +96,7 @@ fn work<I: Input>(
     alloc: Global,
     command: Command,
     input: &mut I,
+    cutters: &mut Vec<Box<dyn Cutter>>,
 ) -> Result<(Status, Vec<u8>), Status>
     requires small { HasSmallBudget command }
     ensures comes { IfOk result (λ x. IfSome (I.told input.old)
@@ -105,7 +114,7 @@ fn work<I: Input>(
     match command {
         Command::Solve { graph, budget } => {
             let read = read_one(alloc, input, graph)?;
-            Ok(searched(alloc, &read, budget)?)
+            Ok(searched(alloc, &read, budget, cutters)?)
         }
         Command::Examine { answer } => {
             let text = read_file(alloc, input, answer)?;

@@ -21,12 +21,12 @@ fn solves_so(
     line: &str,
     graph: &str,
     code: u8,
-    effort: &str,
+    part: &str,
     want: &str,
 ) -> Result<bool, Fail> {
     let (written, status) = ended(alloc, line, graph, "")?;
     let (verdict, _) = ended(alloc, "xnum check graph answer", graph, written.as_str())?;
-    Ok(status.code() == code && written.as_str().contains(effort) && verdict.as_str() == want)
+    Ok(status.code() == code && written.as_str().contains(part) && verdict.as_str() == want)
 }
 
 #[test]
@@ -70,27 +70,9 @@ fn graphs_without_a_crossing_are_solved(rt: HostRuntime) -> Result<(), Fail> {
 fn graphs_with_one_crossing_are_solved(rt: HostRuntime) -> Result<(), Fail> {
     let alloc = rt.alloc();
     let line = "xnum solve graph --budget 300";
-    assert!(rt;
-        solves_so(
-            alloc,
-            line,
-            K5_GRAPH,
-            0,
-            "\neffort 31 300\n",
-            "accepted 1 1\n"
-        )?
-    );
+    assert!(rt; solves_so(alloc, line, K5_GRAPH, 0, "\nbounds 1 1\n", "accepted 1 1\n")?);
     let line = "xnum solve graph --budget 82208";
-    assert!(rt;
-        solves_so(
-            alloc,
-            line,
-            K5_GRAPH,
-            0,
-            "\neffort 31 82208\n",
-            "accepted 1 1\n"
-        )?
-    );
+    assert!(rt; solves_so(alloc, line, K5_GRAPH, 0, "\nbounds 1 1\n", "accepted 1 1\n")?);
     let line = "xnum solve graph";
     assert!(rt;
         solves_so(
@@ -98,7 +80,7 @@ fn graphs_with_one_crossing_are_solved(rt: HostRuntime) -> Result<(), Fail> {
             line,
             K33_GRAPH,
             0,
-            "\neffort 37 10000\n",
+            "\nbounds 1 1\n",
             "accepted 1 1\n"
         )?
     );
@@ -108,7 +90,7 @@ fn graphs_with_one_crossing_are_solved(rt: HostRuntime) -> Result<(), Fail> {
             line,
             K5_CUT_GRAPH,
             0,
-            "\neffort 301 10000\n",
+            "\nbounds 1 1\n",
             "accepted 1 1\n"
         )?
     );
@@ -122,8 +104,8 @@ fn parallel_edges_and_loops_are_solved(rt: HostRuntime) -> Result<(), Fail> {
     let more = "source 2 target 5 ] edge [ source 0 target 3 ] edge [ source 0 target 0 ]";
     let graph = K33_GRAPH.replacen(alloc, last, more, 1)?;
     let line = "xnum solve graph";
-    let effort = "\neffort 37 10000\n";
-    assert!(rt; solves_so(alloc, line, graph.as_str(), 0, effort, "accepted 1 1\n")?);
+    let bounds = "\nbounds 1 1\n";
+    assert!(rt; solves_so(alloc, line, graph.as_str(), 0, bounds, "accepted 1 1\n")?);
     Ok(())
 }
 
