@@ -3,17 +3,6 @@ use Rattle.xn_app.specs.Status.{IsSilent}
 use Rattle.xn_app.proofs.Lines.{never_write}
 use Rattle.xn_app.proofs.system.ended.Goals as goal
 
-pub returns-in-Ok : goal.returns-in-Ok
-returns-in-Ok g c =
-    let exits = c.run.ensures.exits in
-    record {
-      end = exits.end;
-      code_is = exits.code_is;
-      says = exits.says;
-      write = exits.ends.write;
-      untouched = exits.ends.untouched;
-    }
-
 pub returns-in-Err : goal.returns-in-Err
 returns-in-Err g c =
     let silent : IsSilent c.in-Err.end = search rules in
