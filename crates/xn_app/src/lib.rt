@@ -6,6 +6,7 @@ mod files;
 mod judging;
 mod output;
 mod running;
+mod sampling;
 mod searching;
 mod status;
 mod system;

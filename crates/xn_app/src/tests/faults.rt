@@ -20,7 +20,7 @@ fn ended_with(
     writes.extend(write)?;
     let mut input = MemInput::new(files_of(alloc, K5_GRAPH, K5)?, 100, reads);
     let mut out = MemSink::new(alloc, 1000, 5, writes)?;
-    let status = top(alloc, &words, &mut input, &mut out);
+    let status = top(alloc, &words, &mut input, &mut out, &mut Vec::new(alloc));
     let written = String::from_utf8(list_of_bytes(alloc, out.bytes())?)?;
     Ok((written, status.code()))
 }

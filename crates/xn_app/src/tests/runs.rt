@@ -18,7 +18,14 @@ fn told(
     let mut input = MemInput::new(files_of(alloc, graph, answer)?, 100, reads);
     let mut out = MemSink::new(alloc, room, 100, Vec::new(alloc))?;
     let mut errors = MemSink::new(alloc, 100, 5, Vec::new(alloc))?;
-    let code = run(alloc, &words, &mut input, &mut out, &mut errors);
+    let code = run(
+        alloc,
+        &words,
+        &mut input,
+        &mut out,
+        &mut Vec::new(alloc),
+        &mut errors,
+    );
     let told = String::from_utf8(list_of_bytes(alloc, errors.bytes())?)?;
     Ok((told, code))
 }
