@@ -58,7 +58,14 @@ fn ended<K: Sink, E: Sink>(rt: &HostRuntime, out: &mut K, errors: &mut E) -> u8
         result }
 {
     match words(rt) {
-        Ok(words) => run(rt.alloc(), &words, &mut FileInput::new(rt), out, errors),
+        Ok(words) => run(
+            rt.alloc(),
+            &words,
+            &mut FileInput::new(rt),
+            out,
+            &mut Vec::new(rt.alloc()),
+            errors,
+        ),
         Err(end) => tell(end, errors),
     }
 }

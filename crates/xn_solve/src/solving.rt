@@ -7,6 +7,7 @@ ghost use Rattle.xn_solve.specs.Answers.{Bounds, DecidesFromLimit, HasWellFormed
 use crate::maps::Maps;
 use std::alloc::{AllocError, Global};
 use xn_answers::laws::{answers, flat_graphs};
+use xn_cutter::Cutter;
 use xn_graph::Graph;
 use xn_search::{ByPlanting, Solved};
 use xn_sound::laws::accepted_proofs;
@@ -17,7 +18,12 @@ use xn_sound::laws::accepted_proofs;
 /// They differ only where the whole budget is spent and is below the node limit: with a budget of at least that both
 /// show the crossing number. A unit of the budget is a state that is opened; a graph that can be drawn without crossings
 /// takes none. It fails only for want of memory.
-pub fn solve(alloc: Global, graph: &Graph, budget: u64) -> Result<Solved, AllocError>
+pub fn solve(
+    alloc: Global,
+    graph: &Graph,
+    budget: u64,
+    _cutters: &mut Vec<Box<dyn Cutter>>,
+) -> Result<Solved, AllocError>
     requires { budget ≤ 200000 }
     ensures solved { IfOk result (IsSolved graph.now budget) }
     ensures bounds { IfOk result (Bounds graph.now) }

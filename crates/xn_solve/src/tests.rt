@@ -163,7 +163,7 @@ fn found(
     requires { budget ≤ 200000 }
 {
     let graph = Graph::make(nodes, Vec::from_slice(alloc, ends)?)?;
-    let solved = solve(alloc, &graph, budget)?;
+    let solved = solve(alloc, &graph, budget, &mut Vec::new(alloc))?;
     let answer = answer_of(alloc, &graph, 0, budget, solved)?;
     Ok((answer.lower, answer.upper, answer.spent))
 }
