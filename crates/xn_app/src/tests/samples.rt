@@ -39,6 +39,6 @@ fn a_line_that_is_not_written_is_a_fault(rt: HostRuntime) -> Result<(), Fail> {
     let mut out = MemSink::new(alloc, 9, 1, Vec::new(alloc))?;
     let status = top(alloc, &words, &mut input, &mut out, &mut Vec::new(alloc));
     assert_eq!(rt; status, Status::Write);
-    assert_eq!(rt; out.bytes(), b"sample 3 ");
+    assert_eq!(rt; out.bytes(), b"sample 3 ".as_slice());
     Ok(())
 }
