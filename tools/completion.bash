@@ -6,13 +6,13 @@ _xnum() {
   compopt +o filenames
   COMPREPLY=()
   if ((COMP_CWORD == 1)); then
-    mapfile -t COMPREPLY < <(compgen -W 'check draw examine solve' -- "$word")
+    mapfile -t COMPREPLY < <(compgen -W 'check draw examine sample solve' -- "$word")
     return
   fi
   case $command:$COMP_CWORD in
   check:2 | draw:2 | solve:2) without='!*.gml' ;;
   check:3 | draw:3 | examine:2) ;;
-  solve:3)
+  sample:3 | solve:3)
     mapfile -t COMPREPLY < <(compgen -W '--budget' -- "$word")
     return
     ;;

@@ -3,4 +3,5 @@ pub mod Graphs
 pub mod Lines
 pub mod OneOutcome
 pub mod Outcomes
+pub mod Samples
 pub mod Searches

@@ -6,13 +6,14 @@ use Rattle.xn_gml.specs.Meaning.{Found, graph_of_text}
 use Rattle.xn_gml.specs.declared.errors.GmlErr.{GmlErr}
 use Rattle.xn_io.specs.Input.{Files, bytes_of}
 use Rattle.xn_kinds.specs.declared.flaws.Flaw.{Flaw}
-use Rattle.xn_command.specs.Request.{Request, check, draw, examine, solve}
+use Rattle.xn_command.specs.Request.{Request, check, draw, examine, sample, solve}
 use Rattle.xn_app.specs.Ends.{Quits, Ran, Wrote}
 use Rattle.xn_app.specs.Outcome.{AreOneEnd, Checked, ComesTo, Drawn, IsByVerdict, OnGraph, Outcome, Searched, outcome_of}
 use Rattle.xn_app.specs.Status.{IsAside, IsEarly, IsSearchEnd}
 use Rattle.xn_app.specs.declared.status.Limit.TheVariants.{Bytes, Edges, Nodes}
 use Rattle.xn_app.specs.declared.status.Status.{Status}
 use Rattle.xn_app.specs.declared.status.Status.TheVariants.{Done, Refused, Words, Graph, Limit, Read, Undecided, Write, Memory}
+use Rattle.xn_app.proofs.Samples.{both_sampled}
 use Rattle.xn_app.proofs.Searches.{both_searched}
 
 -- one verdict leads to one outcome
@@ -34,6 +35,7 @@ module _ (check_law : OneVerdict) (draw_law : OneDrawVerdict) (front_law : OneFr
 
   pub one_end : (files : Files) (asked : Request) (x y : Outcome) → ComesTo files asked x → ComesTo files asked y → AreOneEnd asked x.0 y.0
   one_end files (solve graph budget) x y first second = one_search budget (graph_of_text (bytes_of files graph)) x y first second
+  one_end files (sample nodes budget) x y first second = both_sampled budget nodes x y first second
   one_end files (examine answer) x y first second =
       ap (λ (o : Outcome). o.0) (one_judged (FrontVerdict (bytes_of files answer)) _ (front_law (bytes_of files answer)) x y first second)
   one_end files (check graph answer) x y first second =

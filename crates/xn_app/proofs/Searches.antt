@@ -3,6 +3,7 @@ use Rattle.std.proofs.Common.{◌≡◌, ℕ, ◌<◌, ◌≤◌, inl, inr, List
 use Rattle.std.proofs.lemmas.Bool.{cases_lt}
 use Rattle.xn_io.specs.Input.{Files, bytes_of}
 use Rattle.xn_model.specs.Drawing.{IsAtLeast, IsAtMost, IsListedDrawing, order_of}
+use Rattle.xn_model.specs.Graph.{Graph}
 use Rattle.xn_model.specs.Orders.{crossing_count}
 use Rattle.xn_kinds.specs.declared.answers.Answer.{Answer}
 use Rattle.xn_proof.specs.Spelling.{text_of}
@@ -20,25 +21,26 @@ use Rattle.xn_app.specs.Ends.{Ran, SaysAnswer, SaysCrossingNumber, SaysUndecided
 use Rattle.xn_app.specs.Outcome.{ComesTo, EndsSearch, IsAnswerFor, IsUndecided, OnGraph, Outcome, Searched, refused_graph}
 use Rattle.xn_app.specs.Status.{IsSearchEnd}
 use Rattle.xn_app.specs.declared.status.Status.{Status}
-use Rattle.xn_app.specs.declared.status.Status.TheVariants.{Done, Refused, Words, Graph, Limit, Read, Undecided, Write, Memory}
+use Rattle.xn_app.specs.declared.status.Status.TheVariants.{Done, Refused, Words, Graph as NoGraph, Limit, Read, Undecided, Write, Memory}
 use Rattle.xn_app.proofs.Graphs.{limited}
 use Rattle.xn_app.proofs.Outcomes.{done_is_no_graph}
 
 -- ---- the answer that was made
 
-module _ (found : Found) (budget : ℕ) (r : Solved) (solved : IsSolved found.graph budget r) (a : Answer) (is : a ≡ answer_made found.graph found.loops budget r) where
-  for_graph : (text : List ℕ) → WellFormed a → Verdict found.graph found.loops (text_of a) (Ok (a.lower, a.upper)) → text ≡ text_of a → IsAnswerFor found budget text a
-  for_graph text formed verdict text_is = record {
+module _ (g : Graph) (loops budget : ℕ) (r : Solved) (solved : IsSolved g budget r) (a : Answer) (is : a ≡ answer_made g loops budget r) where
+  -- it is one for the graph
+  pub for_graph : WellFormed a → Verdict g loops (text_of a) (Ok (a.lower, a.upper)) → IsAnswerFor g loops budget (text_of a) a
+  for_graph formed verdict = record {
     spelled = record {
       well_formed = formed;
-      text_is = text_is;
+      text_is = refl;
       same_graph = ap (λ (x : Answer). x.graph) is;
       same_loops = ap (λ (x : Answer). x.loops) is;
-      drawing = subst (λ (x : Answer). IsListedDrawing found.graph x.drawing.orders x.drawing.next) (sym is) solved.drawing;
-      crossings = subst (λ (x : Answer). x.upper ≡ crossing_count found.graph (order_of found.graph x.drawing.orders)) (sym is) refl;
+      drawing = subst (λ (x : Answer). IsListedDrawing g x.drawing.orders x.drawing.next) (sym is) solved.drawing;
+      crossings = subst (λ (x : Answer). x.upper ≡ crossing_count g (order_of g x.drawing.orders)) (sym is) refl;
     };
     budget_is = ap (λ (x : Answer). x.budget) is;
-    accepted = subst (λ (t : List ℕ). Verdict found.graph found.loops t (Ok (a.lower, a.upper))) (sym text_is) verdict;
+    accepted = verdict;
     few_nodes = subst (λ (x : Answer). 1 ≤ x.lower → length x.tree ≤ x.spent) (sym is) solved.few_nodes;
   }
 
@@ -51,8 +53,10 @@ module _ (found : Found) (budget : ℕ) (r : Solved) (solved : IsSolved found.gr
         absurd (differ same)
   ]
 
-  left_open : a.lower < a.upper → IsUndecided found budget a a.lower a.upper a.spent
-  left_open low =
+  -- its bounds differ
+  pub left_open : (a.lower ≡ a.upper → ⊥) → IsUndecided g budget a a.lower a.upper a.spent
+  left_open differ =
+      let low = apart differ in
       let unproved = solved.undecided (subst (λ (x : Answer). x.lower < x.upper) is low) in
       record {
         lower_is = refl;
@@ -63,32 +67,32 @@ module _ (found : Found) (budget : ℕ) (r : Solved) (solved : IsSolved found.gr
         below = unproved.1;
       }
 
-  module _ (text : List ℕ) (formed : WellFormed a) (verdict : Verdict found.graph found.loops (text_of a) (Ok (a.lower, a.upper))) (text_is : text ≡ text_of a) where
-    -- both bounds are one number
-    pub comes_done : a.lower ≡ a.upper → Searched budget found (Done, text)
-    comes_done same = record { answer = a; is_answer = for_graph text formed verdict text_is; ends = same }
-
-    -- they differ
-    pub comes_undecided : (a.lower ≡ a.upper → ⊥) → Searched budget found (Undecided a.lower a.upper a.spent, text)
-    comes_undecided differ = record { answer = a; is_answer = for_graph text formed verdict text_is; ends = left_open (apart differ) }
+-- and this is its text
+pub searched_by : (budget : ℕ) (found : Found) (end : Status) (a : Answer) (text : List ℕ) → IsAnswerFor found.graph found.loops budget (text_of a) a →
+    EndsSearch found.graph budget a end → text ≡ text_of a → Searched budget found (end, text)
+searched_by budget found end a text is_answer ends text_is = record {
+  answer = a;
+  is_answer = subst (λ (t : List ℕ). IsAnswerFor found.graph found.loops budget t a) (sym text_is) is_answer;
+  ends = ends;
+}
 
 -- ---- the ends of a search
 
-search_end : (found : Found) (budget : ℕ) (a : Answer) (end : Status) → EndsSearch found budget a end → IsSearchEnd end
-search_end found budget a Done ends = tt
-search_end found budget a (Undecided lower upper spent) ends = tt
-search_end found budget a (Refused flaw) ends = absurd ends
-search_end found budget a Words ends = absurd ends
-search_end found budget a (Graph e) ends = absurd ends
-search_end found budget a (Limit l) ends = absurd ends
-search_end found budget a Read ends = absurd ends
-search_end found budget a Write ends = absurd ends
-search_end found budget a Memory ends = absurd ends
+pub search_end : (g : Graph) (budget : ℕ) (a : Answer) (end : Status) → EndsSearch g budget a end → IsSearchEnd end
+search_end g budget a Done ends = tt
+search_end g budget a (Undecided lower upper spent) ends = tt
+search_end g budget a (Refused flaw) ends = absurd ends
+search_end g budget a Words ends = absurd ends
+search_end g budget a (NoGraph e) ends = absurd ends
+search_end g budget a (Limit l) ends = absurd ends
+search_end g budget a Read ends = absurd ends
+search_end g budget a Write ends = absurd ends
+search_end g budget a Memory ends = absurd ends
 
 -- two of them
 pub both_searched : (budget : ℕ) (found : Found) (x y : Outcome) → Searched budget found x → Searched budget found y → IsSearchEnd x.0 × IsSearchEnd y.0
 both_searched budget found x y first second =
-    (search_end found budget first.answer x.0 first.ends, search_end found budget second.answer y.0 second.ends)
+    (search_end found.graph budget first.answer x.0 first.ends, search_end found.graph budget second.answer y.0 second.ends)
 
 -- ---- what was written
 
@@ -104,7 +108,7 @@ module _ (law : AcceptedTextBounds) (graph_text : List ℕ) (budget : ℕ) (foun
     written = wrote.written;
   }
 
-  bounds : (text : List ℕ) (a : Answer) → IsAnswerFor found budget text a → IsAtLeast found.graph a.lower × IsAtMost found.graph a.upper
+  bounds : (text : List ℕ) (a : Answer) → IsAnswerFor found.graph found.loops budget text a → IsAtLeast found.graph a.lower × IsAtMost found.graph a.upper
   bounds text a is_answer = law found.graph found.loops text a.lower a.upper (limited graph_text found is).is_graph is_answer.accepted
 
   says_number : Wrote (OnGraph (Ok found) (Searched budget)) Done old new → SaysCrossingNumber graph_text budget old new

@@ -1,5 +1,5 @@
 -- What an end says of the files, and of what was written.
-use Rattle.std.specs.Prelude.{◌≡◌, ◌⊎◌, ℕ, List, [], IfSome, Option, Ok}
+use Rattle.std.specs.Prelude.{◌≡◌, ◌⊎◌, ℕ, ◌≤◌, List, [], IfSome, Option, Ok}
 use Rattle.std.specs.Io.KnownBytes.{Appends}
 use Rattle.std.specs.Map.{keys_of}
 use Rattle.xn_io.specs.Causes.{Rose}
@@ -12,14 +12,16 @@ use Rattle.xn_gml.specs.Meaning.{Found, graph_of_text}
 use Rattle.xn_graph.specs.Limits.{IsLimitedGraph}
 use Rattle.xn_kinds.specs.declared.answers.Answer.{Answer}
 use Rattle.xn_kinds.specs.declared.drawings.Drawing.{Drawing}
+use Rattle.xn_proof.specs.Spelling.{text_of}
+use Rattle.xn_sample.specs.Sample.{sample_of}
 use Rattle.xn_show.specs.Text.{show_text}
 use Rattle.xn_command.specs.Request.{Request}
 use Rattle.xn_app.specs.declared.status.Limit.TheVariants.{Bytes}
 use Rattle.xn_app.specs.declared.status.Status.{Status}
-use Rattle.xn_app.specs.declared.status.Status.TheVariants.{Words, Limit, Read, Write, Memory}
+use Rattle.xn_app.specs.declared.status.Status.TheVariants.{Done, Undecided, Words, Limit, Read, Write, Memory}
 use Rattle.xn_app.specs.Files.{EndsReading}
-use Rattle.xn_app.specs.Outcome.{IsAnswerFor, IsUndecided, Outcome}
-use Rattle.xn_app.specs.Output.{accepted_line, seen_line}
+use Rattle.xn_app.specs.Outcome.{IsAnswerFor, IsUndecided, Outcome, Sampled}
+use Rattle.xn_app.specs.Output.{accepted_line, sample_line, seen_line}
 
 -- this holds of what is asked and of the files, where words ask for something and the files are told
 abbrev pub Told : Option Request → Option Files → (Request → Files → Type 0) → Type 0
@@ -45,6 +47,14 @@ Ran Comes Read old new = Unit {0}
 Ran Comes Memory old new = Unit {0}
 Ran Comes (Limit Bytes) old new = Unit {0}
 Ran Comes status old new = Wrote Comes status old new
+
+-- a run without a file that comes to one of these outcomes ended so, and so much was written
+abbrev pub RanAlone : (Outcome → Type 0) → Status → Option (List ℕ) → Option (List ℕ) → Type 0
+RanAlone Comes Done old new = Wrote Comes Done old new
+RanAlone Comes (Undecided lower upper spent) old new = Wrote Comes (Undecided lower upper spent) old new
+RanAlone Comes Write old new = WrotePart Comes old new
+RanAlone Comes Memory old new = Unit {0}
+RanAlone Comes status old new = ⊥
 
 -- a command comes to no answer and ends so: a file wasn't read, or this is what it comes to, and no bytes belong to it
 abbrev pub Quits : (Outcome → Type 0) → Status → Type 0
@@ -90,7 +100,7 @@ pub record SaysAnswer (graph_text : List ℕ) (budget : ℕ) (old new : Option (
   pub is_graph : IsLimitedGraph found.graph
   pub text : List ℕ
   pub answer : Answer
-  pub is_answer : IsAnswerFor found budget text answer
+  pub is_answer : IsAnswerFor found.graph found.loops budget text answer
   pub written : Appends old new text
 
 -- both bounds are one number, and it is the crossing number
@@ -103,6 +113,29 @@ pub record SaysCrossingNumber (graph_text : List ℕ) (budget : ℕ) (old new : 
 -- node limit
 pub record SaysUndecided (graph_text : List ℕ) (budget lower upper spent : ℕ) (old new : Option (List ℕ)) : Type 0 where
   pub says : SaysAnswer graph_text budget old new
-  pub undecided : IsUndecided says.found budget says.answer lower upper spent
+  pub undecided : IsUndecided says.found.graph budget says.answer lower upper spent
   pub least : IsAtLeast says.found.graph lower
   pub at_most : IsAtMost says.found.graph upper
+
+-- an answer for the sample graph of so many nodes was found that `check` accepts, and its line was written: the numbers of nodes and
+-- edges, both bounds, and what was spent of the budget
+pub record SaysSample (nodes budget : ℕ) (old new : Option (List ℕ)) : Type 0 where
+  pub is_graph : IsLimitedGraph (sample_of nodes)
+  pub answer : Answer
+  pub is_answer : IsAnswerFor (sample_of nodes) 0 budget (text_of answer) answer
+  pub in_budget : answer.spent ≤ budget
+  pub written : Appends old new (sample_line (sample_of nodes) (answer.lower, answer.upper) answer.spent)
+
+-- both bounds are one number, and it is the crossing number of the sample graph
+pub record SaysSampleNumber (nodes budget : ℕ) (old new : Option (List ℕ)) : Type 0 where
+  pub says : SaysSample nodes budget old new
+  pub decided : says.answer.lower ≡ says.answer.upper
+  pub number : IsCrossingNumber (sample_of nodes) says.answer.upper
+
+-- its bounds are these two, which differ, and its crossing number lies between them: the whole budget is spent, and was below the
+-- node limit
+pub record SaysSampleUndecided (nodes budget lower upper spent : ℕ) (old new : Option (List ℕ)) : Type 0 where
+  pub says : SaysSample nodes budget old new
+  pub undecided : IsUndecided (sample_of nodes) budget says.answer lower upper spent
+  pub least : IsAtLeast (sample_of nodes) lower
+  pub at_most : IsAtMost (sample_of nodes) upper

@@ -4,12 +4,12 @@ use Rattle.std.specs.Io.KnownBytes.{Appends}
 use Rattle.xn_io.specs.Causes.{Rose}
 use Rattle.xn_io.specs.Input.{Files, bytes_of}
 use Rattle.xn_io.specs.Sink.{TakesPart}
-use Rattle.xn_command.specs.Request.{Request, check, draw, examine, solve}
+use Rattle.xn_command.specs.Request.{Request, check, draw, examine, sample, solve}
 use Rattle.xn_app.specs.declared.status.Status.{Status}
 use Rattle.xn_app.specs.declared.status.Status.TheVariants.{Done, Undecided, Words, Write, Memory}
-use Rattle.xn_app.specs.Ends.{Ran, SaysBounds, SaysCrossingNumber, SaysDrawing, SaysShown, SaysUndecided, Told}
-use Rattle.xn_app.specs.Files.{IsLastBegun, Shows, last_of}
-use Rattle.xn_app.specs.Outcome.{AreOneEnd, ComesTo, Outcome}
+use Rattle.xn_app.specs.Ends.{Ran, RanAlone, SaysBounds, SaysCrossingNumber, SaysDrawing, SaysSampleNumber, SaysSampleUndecided, SaysShown, SaysUndecided, Told}
+use Rattle.xn_app.specs.Files.{IsLast, IsLastBegun, Shows, WithFile}
+use Rattle.xn_app.specs.Outcome.{AreOneEnd, ComesTo, Outcome, Sampled}
 use Rattle.xn_app.specs.Status.{IsAside, IsJudgedEnd, IsSilent, IsStarted, code_of}
 use Rattle.xn_app.specs.Texts.{told_line}
 
@@ -52,9 +52,13 @@ pub record IsEnd (asked : Option Request) (input : Reading) (out : Writing) (end
       IfSome input.told (λ files. SaysCrossingNumber (bytes_of files graph) budget out.old out.new)
   pub undecided : (graph : List ℕ) (budget lower upper spent : ℕ) → asked ≡ Some (solve graph budget) → end ≡ Undecided lower upper spent →
       IfSome input.told (λ files. SaysUndecided (bytes_of files graph) budget lower upper spent out.old out.new)
-  pub shows : Shows input.told input.name input.before input.after input.failed input.got end
+  pub alone : (nodes budget : ℕ) → asked ≡ Some (sample nodes budget) → RanAlone (Sampled budget nodes) end out.old out.new
+  pub sample_number : (nodes budget : ℕ) → asked ≡ Some (sample nodes budget) → end ≡ Done → SaysSampleNumber nodes budget out.old out.new
+  pub sample_undecided : (nodes budget lower upper spent : ℕ) → asked ≡ Some (sample nodes budget) → end ≡ Undecided lower upper spent →
+      SaysSampleUndecided nodes budget lower upper spent out.old out.new
+  pub shows : IfSome asked (λ r. WithFile r (Shows input.told input.name input.before input.after input.failed input.got end))
   pub begun : IfSome asked (λ r. IsStarted end → IsLastBegun input.told input.name r)
-  pub last : IfSome asked (λ r. IsJudgedEnd end → input.name ≡ Some (last_of r))
+  pub last : IfSome asked (λ r. IsJudgedEnd end → IsLast input.name r)
   pub write : end ≡ Write → Rose out.before out.after
   pub untouched : IsSilent end → (out.new ≡ out.old) × (out.after ≡ out.before)
 

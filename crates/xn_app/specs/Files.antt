@@ -4,7 +4,7 @@ use Rattle.xn_gml.specs.Meaning.{Found, graph_of_text}
 use Rattle.xn_gml.specs.declared.errors.GmlErr.{GmlErr}
 use Rattle.xn_io.specs.Causes.{Rose}
 use Rattle.xn_io.specs.Input.{Files, IsLonger, bytes_of}
-use Rattle.xn_command.specs.Request.{Request, check, draw, examine, solve}
+use Rattle.xn_command.specs.Request.{Request, check, draw, examine, sample, solve}
 use Rattle.xn_app.specs.Outcome.{refused_graph}
 use Rattle.xn_app.specs.declared.status.Limit.TheVariants.{Bytes}
 use Rattle.xn_app.specs.declared.status.Status.{Status}
@@ -12,21 +12,34 @@ use Rattle.xn_app.specs.declared.status.Status.TheVariants.{Words, Limit, Read, 
 
 -- ---- names
 
--- the name of the file that is read last: the answer that is judged, or the graph that is searched
-abbrev pub last_of : Request → List ℕ
-last_of (solve graph budget) = graph
-last_of (examine answer) = answer
-last_of (check graph answer) = answer
-last_of (draw graph answer) = answer
+-- this holds where what is asked has a file
+abbrev pub WithFile : Request → Type 0 → Type 0
+WithFile (sample nodes budget) P = Unit {0}
+WithFile asked P = P
+
+-- this holds where it has none
+abbrev pub WithoutFile : Request → Type 0 → Type 0
+WithoutFile (sample nodes budget) P = P
+WithoutFile asked P = Unit {0}
+
+-- the name begun last is that of the file that is read last, if there is one: the answer that is judged, or the graph that is
+-- searched
+abbrev pub IsLast : Option (List ℕ) → Request → Type 0
+IsLast begun (solve graph budget) = begun ≡ Some graph
+IsLast begun (sample nodes budget) = Unit {0}
+IsLast begun (examine answer) = begun ≡ Some answer
+IsLast begun (check graph answer) = begun ≡ Some answer
+IsLast begun (draw graph answer) = begun ≡ Some answer
 
 -- of two files the first was begun last, or the second once the text of the first has a graph
 abbrev pub IsOneBegun : Option Files → Option (List ℕ) → List ℕ → List ℕ → Type 0
 IsOneBegun told begun graph answer =
     (begun ≡ Some graph) ⊎ ((begun ≡ Some answer) × IfSome told (λ files. IsOk (graph_of_text (bytes_of files graph))))
 
--- the name begun last is that of the first file, or of the second, if its turn came
+-- the name begun last is that of the first file, if there is one, or of the second, if its turn came
 abbrev pub IsLastBegun : Option Files → Option (List ℕ) → Request → Type 0
 IsLastBegun told begun (solve graph budget) = begun ≡ Some graph
+IsLastBegun told begun (sample nodes budget) = Unit {0}
 IsLastBegun told begun (examine answer) = begun ≡ Some answer
 IsLastBegun told begun (check graph answer) = IsOneBegun told begun graph answer
 IsLastBegun told begun (draw graph answer) = IsOneBegun told begun graph answer

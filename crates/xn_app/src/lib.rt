@@ -7,6 +7,7 @@ mod judging;
 mod output;
 mod progress;
 mod running;
+mod sampling;
 mod searching;
 mod status;
 mod system;

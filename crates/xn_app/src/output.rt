@@ -1,10 +1,11 @@
 // The lines that say what was found.
 ghost use Rattle.std.specs.Prelude.{◌≡◌, IfOk};
-ghost use Rattle.xn_app.specs.Output.{accepted_line, seen_line};
+ghost use Rattle.xn_app.specs.Output.{accepted_line, sample_line, seen_line};
 
 use std::alloc::{AllocError, Global};
 use xn_check::Accepted;
 use xn_draw::Seen;
+use xn_graph::Graph;
 
 /// The line for a drawing.
 pub fn seen_line(alloc: Global, seen: &Seen) -> Result<Vec<u8>, AllocError>
@@ -28,5 +29,23 @@ pub fn accepted_line(alloc: Global, accepted: Accepted) -> Result<Vec<u8>, Alloc
     let lower = accepted.lower;
     let upper = accepted.upper;
     let line = format!(in alloc; "accepted {lower} {upper}\n")?;
+    Ok(line.into_bytes())
+}
+
+/// The line for a sample graph, an answer for which is accepted with these bounds and took so many tree nodes.
+pub fn sample_line(
+    alloc: Global,
+    graph: &Graph,
+    accepted: Accepted,
+    spent: u64,
+) -> Result<Vec<u8>, AllocError>
+    ensures { IfOk result (λ line. line.items ≡ sample_line graph.now (accepted.lower, accepted.upper) spent) }
+{
+    let nodes = graph.nodes();
+    let edges = graph.edges();
+    let Accepted { lower, upper } = accepted;
+    let line = format!(in alloc;
+        "sample {nodes} {edges} lower {lower} upper {upper} spent {spent}\n"
+    )?;
     Ok(line.into_bytes())
 }

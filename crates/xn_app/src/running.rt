@@ -2,8 +2,8 @@
 ghost use Rattle.std.specs.Prelude.{◌≡◌, List, ℕ, Some, IfSome};
 ghost use Rattle.xn_io.specs.Input.{bytes_of};
 ghost use Rattle.xn_command.specs.Gives.{words_request};
-ghost use Rattle.xn_command.specs.Request.{check, solve};
-ghost use Rattle.xn_app.specs.Ends.{SaysBounds, SaysCrossingNumber};
+ghost use Rattle.xn_command.specs.Request.{check, sample, solve};
+ghost use Rattle.xn_app.specs.Ends.{SaysBounds, SaysCrossingNumber, SaysSampleNumber};
 ghost use Rattle.xn_app.specs.Exits.{Exits};
 
 use crate::telling::tell;
@@ -56,6 +56,11 @@ pub fn run<I: Input, K: Sink, E: Sink>(
     ensures number { (graph : List ℕ) (budget : ℕ) → words_request words.now ≡ Some (solve graph budget) → result ≡ 0
         → IfSome (I.told input.old)
         (λ files. SaysCrossingNumber (bytes_of files graph) budget (K.taken out.old) (K.taken out.new)) }
+
+    // And that of `sample`, which doesn't touch the input.
+    ensures sample_number { (nodes budget : ℕ) → words_request words.now ≡ Some (sample nodes budget) → result ≡ 0
+        → SaysSampleNumber nodes budget (K.taken out.old) (K.taken out.new) }
+    ensures unread { (nodes budget : ℕ) → words_request words.now ≡ Some (sample nodes budget) → input.new ≡ input.old }
 {
     let end = top(alloc, words, input, out, cutters);
     tell(end, errors)

@@ -2,15 +2,16 @@
 ghost use Rattle.std.specs.Prelude.{◌≡◌, ◌⊎◌, List, ℕ, Some, IfOk, IfErr, IfSome, IfNone};
 ghost use Rattle.xn_io.specs.Causes.{Rose};
 ghost use Rattle.xn_io.specs.Input.{bytes_of};
-ghost use Rattle.xn_command.specs.Gives.{HasSmallBudget, request_of_command, words_request};
-ghost use Rattle.xn_command.specs.Request.{check, draw, examine, solve};
-ghost use Rattle.xn_app.specs.Ends.{Finishes, Quits, Ran, SaysBounds, SaysCrossingNumber, SaysDrawing, SaysShown, SaysUndecided, Told};
-ghost use Rattle.xn_app.specs.Files.{IsLastBegun, IsFine, Shows, last_of};
-ghost use Rattle.xn_app.specs.Outcome.{AreOneEnd, ComesTo, Outcome};
+ghost use Rattle.xn_command.specs.Gives.{IsWithinLimits, request_of_command, words_request};
+ghost use Rattle.xn_command.specs.Request.{check, draw, examine, sample, solve};
+ghost use Rattle.xn_app.specs.Ends.{Finishes, Quits, Ran, RanAlone, SaysBounds, SaysCrossingNumber, SaysDrawing, SaysSampleNumber, SaysSampleUndecided, SaysShown, SaysUndecided, Told};
+ghost use Rattle.xn_app.specs.Files.{IsFine, IsLast, IsLastBegun, Shows, WithFile, WithoutFile};
+ghost use Rattle.xn_app.specs.Outcome.{AreOneEnd, ComesAlone, ComesTo, Outcome, Sampled};
 ghost use Rattle.xn_app.specs.Status.{IsAside, IsEarly, IsJudgedEnd, IsSilent, IsStarted, IsVerdictEnd};
 
 use crate::files::{read_both, read_file, read_one};
 use crate::judging::{checked, drawn, examined};
+use crate::sampling::sampled;
 use crate::searching::searched;
 use crate::status::Status;
 use std::alloc::Global;
@@ -19,12 +20,13 @@ use xn_command::{Command, WordsErr, read_words};
 use xn_cutter::Cutter;
 use xn_io::{Input, Sink, write_all};
 
-/// Does all that the program does: reads the words, reads the files that they name, searches the graph or judges the
+/// Does all that the program does: reads the words, reads the files that they name, searches a graph or judges an
 /// answer, and writes what belongs to that.
 ///
 /// The words begin with the program's name. The input and the sink are whatever is handed in: what the clauses say
 /// of files and of bytes written holds where the input tells its files and the sink what it took.
-/// The cutters help a search to decide more within its budget; each clause holds whatever they are, and where there is none.
+/// The cutters help a search to decide more within its budget: each clause holds whatever they are, also where there is
+/// none.
 pub fn top<I: Input, K: Sink>(
     alloc: Global,
     words: &[String],
@@ -66,13 +68,28 @@ pub fn top<I: Input, K: Sink>(
         → result ≡ Status.Undecided lower upper spent → IfSome (I.told input.old)
         (λ files. SaysUndecided (bytes_of files graph) budget lower upper spent (K.taken out.old) (K.taken out.new)) }
 
+    // What `sample` means, which has no file: it is done or undecided, or a write failed, or memory was wanting, and the
+    // input isn't touched.
+    ensures alone { (nodes budget : ℕ) → words_request words.now ≡ Some (sample nodes budget)
+        → RanAlone (Sampled budget nodes) result (K.taken out.old) (K.taken out.new) }
+    ensures unread { (nodes budget : ℕ) → words_request words.now ≡ Some (sample nodes budget) → input.new ≡ input.old }
+
+    // Where it is done, the line was written of an answer for the sample graph whose bounds are both its crossing number;
+    // where it is undecided, of one whose bounds differ, and the budget, all of it spent, was below the node limit.
+    ensures sample_number { (nodes budget : ℕ) → words_request words.now ≡ Some (sample nodes budget)
+        → result ≡ Status.Done → SaysSampleNumber nodes budget (K.taken out.old) (K.taken out.new) }
+    ensures sample_undecided { (nodes budget lower upper spent : ℕ) → words_request words.now ≡ Some (sample nodes budget)
+        → result ≡ Status.Undecided lower upper spent
+        → SaysSampleUndecided nodes budget lower upper spent (K.taken out.old) (K.taken out.new) }
+
     // What the input and the sink show at the end.
-    ensures shows { Shows (I.told input.old) (I.name input.new) (I.faults input.old) (I.faults input.new)
-        (I.failed input.new) (I.got input.new) result }
+    ensures shows { IfSome (words_request words.now) (λ asked. WithFile asked
+        (Shows (I.told input.old) (I.name input.new) (I.faults input.old) (I.faults input.new)
+        (I.failed input.new) (I.got input.new) result)) }
     ensures begun { IfSome (words_request words.now)
         (λ asked. IsStarted result → IsLastBegun (I.told input.old) (I.name input.new) asked) }
     ensures last { IfSome (words_request words.now)
-        (λ asked. IsJudgedEnd result → I.name input.new ≡ Some (last_of asked)) }
+        (λ asked. IsJudgedEnd result → IsLast (I.name input.new) asked) }
     ensures write { result ≡ Status.Write → Rose (K.faults out.old) (K.faults out.new) }
     ensures untouched { IsSilent result → (K.taken out.new ≡ K.taken out.old) × (K.faults out.new ≡ K.faults out.old) }
 {
@@ -98,24 +115,28 @@ fn work<I: Input>(
     input: &mut I,
     cutters: &mut Vec<Box<dyn Cutter>>,
 ) -> Result<(Status, Vec<u8>), Status>
-    requires small { HasSmallBudget command }
+    requires small { IsWithinLimits command }
     ensures comes { IfOk result (λ x. IfSome (I.told input.old)
         (λ files. ComesTo files (request_of_command command) (x.0, x.1.items))) }
+    ensures alone { IfOk result (λ x. ComesAlone (request_of_command command) (x.0, x.1.items)) }
     ensures judged { IfOk result (λ x. IsVerdictEnd x.0) }
     ensures quits { IfErr result (λ end. IfSome (I.told input.old)
         (λ files. Quits (ComesTo files (request_of_command command)) end)) }
     ensures early { IfErr result IsEarly }
-    ensures fine { IfOk result (λ x. IsFine (I.failed input.new) (I.got input.new)) }
+    ensures wanting { WithoutFile (request_of_command command) (IfErr result (λ end. end ≡ Status.Memory)) }
+    ensures unread { WithoutFile (request_of_command command) (input.new ≡ input.old) }
+    ensures fine { WithFile (request_of_command command) (IfOk result (λ x. IsFine (I.failed input.new) (I.got input.new))) }
     ensures shows { IfErr result (Shows (I.told input.old) (I.name input.new) (I.faults input.old) (I.faults input.new)
         (I.failed input.new) (I.got input.new)) }
     ensures begun { IsLastBegun (I.told input.old) (I.name input.new) (request_of_command command) }
-    ensures last { IfOk result (λ x. I.name input.new ≡ Some (last_of (request_of_command command))) }
+    ensures last { IfOk result (λ x. IsLast (I.name input.new) (request_of_command command)) }
 {
     match command {
         Command::Solve { graph, budget } => {
             let read = read_one(alloc, input, graph)?;
             Ok(searched(alloc, &read, budget, cutters)?)
         }
+        Command::Sample { nodes, budget } => Ok(sampled(alloc, nodes, budget, cutters)?),
         Command::Examine { answer } => {
             let text = read_file(alloc, input, answer)?;
             Ok(examined(alloc, &text)?)

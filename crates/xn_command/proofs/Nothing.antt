@@ -1,12 +1,12 @@
 -- Operands and budgets that ask for nothing.
-use Rattle.std.proofs.Common.{◌≡◌, ◌∙◌, ℕ, Bool, cond, true, false, not, ◌&&◌, ◌||◌, ◌<◌, ◌==◌, nat_lt, ◌^◌, List, [], ◌∷◌, length, None, refl, sym, ap, ap₂, subst, bytes_eq, codes, true≢false, arith}
+use Rattle.std.proofs.Common.{◌≡◌, ◌∙◌, ℕ, Bool, cond, true, false, not, ◌&&◌, ◌||◌, ◌<◌, ◌==◌, nat_lt, ◌^◌, List, [], ◌∷◌, length, None, refl, sym, ap, ap₂, subst, true≢false, arith}
 use Rattle.std.specs.List.{list_all}
 use Rattle.std.proofs.lemmas.Bool.{eqb-true}
 use Rattle.clap.specs.Walk.{Text}
 use Rattle.xn_text.specs.Number.{is_number, number_value}
 use Rattle.xn_text.specs.declared.numbers.WordNumber.TheVariants.{Is, Large, Not}
 use Rattle.xn_command.specs.Items.{Item, budgets_of, is_dashed, is_useful, operands_of}
-use Rattle.xn_command.specs.Request.{asked_by, budget_from, budget_of, request_by, solved_by, with_budget}
+use Rattle.xn_command.specs.Request.{asked_by, budget_from, budget_of, request_by, with_budget, within_by}
 
 pub nothing_by : (items : List Item) → (a b : List Text) → operands_of items ≡ a → budgets_of items ≡ b → asked_by a b ≡ None → request_by items ≡ None
 nothing_by items a b operands budgets none = go (list_all is_useful items) (ap₂ asked_by operands budgets ∙ none)
@@ -39,11 +39,7 @@ twice_ask_nothing (c ∷ f ∷ s ∷ x ∷ others) (a ∷ b ∷ more) twice = re
 
 -- a budget that isn't one
 pub unspelled : (c f word : Text) → budget_of word ≡ None → with_budget c f word ≡ None
-unspelled c f word none = go (bytes_eq c (codes "solve")) (ap (solved_by f) none)
-  where
-    go : (is : Bool) → solved_by f (budget_of word) ≡ None → cond is (solved_by f (budget_of word)) None ≡ None
-    go true e = e
-    go false e = refl
+unspelled c f word none = ap (within_by c f) none
 
 pub unspelled_ask_nothing : (operands : List Text) (word : Text) (more : List Text) → budget_of word ≡ None → asked_by operands (word ∷ more) ≡ None
 unspelled_ask_nothing [] word more none = refl

@@ -5,8 +5,8 @@ use Rattle.std.proofs.lemmas.Bool.{and_right, cases_Bool}
 use Rattle.std.proofs.lemmas.Slice.Eq.{bytes_eq-Decides}
 use Rattle.clap.specs.Walk.{Text}
 use Rattle.xn_command.specs.Items.{Item, after_name, budget, budgets_of, is_useful, items_of, operand, operands_of, stray, unvalued}
-use Rattle.xn_command.specs.Refusals.{HasCommand, IsRefused, RefusedExactly, TakesNoBudget, TakesOne, TakesTwo, budget_given, few_operands, many_operands, no_budget, no_command, no_value, second_given, second_missing, stray_word, two_budgets}
-use Rattle.xn_command.specs.Request.{asked_by, budget_of, request_by, solved_by, with_budget, with_one, with_two}
+use Rattle.xn_command.specs.Refusals.{HasCommand, HasFirst, IsRefused, RefusedExactly, TakesNoBudget, TakesOne, TakesTwo, budget_given, few_operands, many_operands, no_budget, no_command, no_nodes, no_value, second_given, second_missing, stray_word, two_budgets}
+use Rattle.xn_command.specs.Request.{asked_by, budget_of, nodes_of, request_by, sampled_by, usual_budget, with_budget, with_one, with_two, within_by}
 use Rattle.xn_command.proofs.Nothing.{few_ask_nothing, many_ask_nothing, nothing_by, twice_ask_nothing, unspelled_ask_nothing}
 
 -- ---- which command it is
@@ -20,12 +20,14 @@ differs a b other e = true≢false (sym ((bytes_eq-Decides a b).1 e) ∙ other)
 -- none of the commands
 record IsOther (c : Text) : Type 0 where
   solve : bytes_eq c (codes "solve") ≡ false
+  sample : bytes_eq c (codes "sample") ≡ false
   examine : bytes_eq c (codes "examine") ≡ false
   check : bytes_eq c (codes "check") ≡ false
   draw : bytes_eq c (codes "draw") ≡ false
 
 data Which (c : Text) : Type 0 where
   solves : c ≡ codes "solve" → Which c
+  samples : c ≡ codes "sample" → Which c
   examines : c ≡ codes "examine" → Which c
   checks : c ≡ codes "check" → Which c
   draws : c ≡ codes "draw" → Which c
@@ -34,13 +36,16 @@ data Which (c : Text) : Type 0 where
 which : (c : Text) → Which c
 which c = elim (cases_Bool (bytes_eq c (codes "solve"))) [
   | inl is ↦ solves (same c (codes "solve") is)
-  | inr not_solve ↦ elim (cases_Bool (bytes_eq c (codes "examine"))) [
-    | inl is ↦ examines (same c (codes "examine") is)
-    | inr not_examine ↦ elim (cases_Bool (bytes_eq c (codes "check"))) [
-      | inl is ↦ checks (same c (codes "check") is)
-      | inr not_check ↦ elim (cases_Bool (bytes_eq c (codes "draw"))) [
-        | inl is ↦ draws (same c (codes "draw") is)
-        | inr not_draw ↦ others (record { solve = not_solve; examine = not_examine; check = not_check; draw = not_draw })
+  | inr not_solve ↦ elim (cases_Bool (bytes_eq c (codes "sample"))) [
+    | inl is ↦ samples (same c (codes "sample") is)
+    | inr not_sample ↦ elim (cases_Bool (bytes_eq c (codes "examine"))) [
+      | inl is ↦ examines (same c (codes "examine") is)
+      | inr not_examine ↦ elim (cases_Bool (bytes_eq c (codes "check"))) [
+        | inl is ↦ checks (same c (codes "check") is)
+        | inr not_check ↦ elim (cases_Bool (bytes_eq c (codes "draw"))) [
+          | inl is ↦ draws (same c (codes "draw") is)
+          | inr not_draw ↦ others (record { solve = not_solve; sample = not_sample; examine = not_examine; check = not_check; draw = not_draw })
+        ]
       ]
     ]
   ]
@@ -54,7 +59,8 @@ one_command items c this has given =
     equal
 
 unknown : (items : List Item) (c : Text) → HasCommand items c → IsOther c → ¬ (TakesOne items ⊎ TakesTwo items)
-unknown items c has other (inl (inl this)) = differs c (codes "solve") other.solve (one_command items c (codes "solve") has this)
+unknown items c has other (inl (inl (inl this))) = differs c (codes "solve") other.solve (one_command items c (codes "solve") has this)
+unknown items c has other (inl (inl (inr this))) = differs c (codes "sample") other.sample (one_command items c (codes "sample") has this)
 unknown items c has other (inl (inr this)) = differs c (codes "examine") other.examine (one_command items c (codes "examine") has this)
 unknown items c has other (inr (inl this)) = differs c (codes "check") other.check (one_command items c (codes "check") has this)
 unknown items c has other (inr (inr this)) = differs c (codes "draw") other.draw (one_command items c (codes "draw") has this)
@@ -62,10 +68,15 @@ unknown items c has other (inr (inr this)) = differs c (codes "draw") other.draw
 -- ---- what a command asks for
 
 with_one_other : (c f : Text) → IsOther c → with_one c f ≡ None
-with_one_other c f other = rw (other.solve, other.examine) refl
+with_one_other c f other = rw (other.examine, other.solve, other.sample) refl
+
+-- a budget for a command that takes none
+within_other : (c f : Text) (budget : Option ℕ) → bytes_eq c (codes "solve") ≡ false → bytes_eq c (codes "sample") ≡ false → within_by c f budget ≡ None
+within_other c f None not_solve not_sample = refl
+within_other c f (Some n) not_solve not_sample = rw (not_solve, not_sample) refl
 
 with_budget_other : (c f b : Text) → IsOther c → with_budget c f b ≡ None
-with_budget_other c f b other = rw other.solve refl
+with_budget_other c f b other = within_other c f (budget_of b) other.solve other.sample
 
 with_two_other : (c f s : Text) → IsOther c → with_two c f s ≡ None
 with_two_other c f s other = rw (other.check, other.draw) refl
@@ -83,9 +94,22 @@ draw_with_two : (f s : Text) → with_two (codes "draw") f s ≡ None → ⊥
 draw_with_two f s none = absurd cc
 
 -- a budget that solves nothing is none
-solved_none : (f : Text) (budget : Option ℕ) → solved_by f budget ≡ None → budget ≡ None
+solved_none : (f : Text) (budget : Option ℕ) → within_by (codes "solve") f budget ≡ None → budget ≡ None
 solved_none f None none = refl
 solved_none f (Some n) none = absurd cc
+
+-- and where nothing is sampled, there is no number of nodes or no budget
+sampled_none : (nodes : Option ℕ) (most : ℕ) → sampled_by nodes most ≡ None → nodes ≡ None
+sampled_none None most none = refl
+sampled_none (Some n) most none = absurd cc
+
+unsampled : (f : Text) (budget : Option ℕ) → within_by (codes "sample") f budget ≡ None → (budget ≡ None) ⊎ (nodes_of f ≡ None)
+unsampled f None none = inl refl
+unsampled f (Some n) none = inr (sampled_none (nodes_of f) n none)
+
+no_sample : (f : Text) (budget : Option ℕ) → nodes_of f ≡ None → within_by (codes "sample") f budget ≡ None
+no_sample f None none = refl
+no_sample f (Some n) none = ap (λ (nodes : Option ℕ). sampled_by nodes n) none
 
 -- ---- words that ask for nothing
 
@@ -107,11 +131,16 @@ module _ (items : List Item) where
     named : (more : List Text) (this : Text) → operands_of items ≡ c ∷ f ∷ more → c ≡ this → HasCommand items this
     named more this eo e = ap (λ (l : List Text). slice_get l 0) eo ∙ ap (λ (t : Text). Some t) e
 
+    first_named : (more : List Text) → operands_of items ≡ c ∷ f ∷ more → HasFirst items f
+    first_named more eo = ap (λ (l : List Text). slice_get l 1) eo
+
     none_named : (more : List Text) → operands_of items ≡ c ∷ f ∷ more → IsOther c → IsRefused items
     none_named more eo other = no_command (unknown items c (named more c eo refl) other)
 
     by_one : operands_of items ≡ c ∷ f ∷ [] → with_one c f ≡ None → Which c → IsRefused items
     by_one eo none (solves e) = absurd (solve_with_one f (subst (λ (t : Text). with_one t f ≡ None) e none))
+    by_one eo none (samples e) =
+        no_nodes f (named [] (codes "sample") eo e) (first_named [] eo) (sampled_none (nodes_of f) usual_budget (subst (λ (t : Text). with_one t f ≡ None) e none))
     by_one eo none (examines e) = absurd (examine_with_one f (subst (λ (t : Text). with_one t f ≡ None) e none))
     by_one eo none (checks e) = second_missing (inl (named [] (codes "check") eo e)) (sized (c ∷ f ∷ []) eo)
     by_one eo none (draws e) = second_missing (inr (named [] (codes "draw") eo e)) (sized (c ∷ f ∷ []) eo)
@@ -120,20 +149,26 @@ module _ (items : List Item) where
     by_budget : (b : Text) → operands_of items ≡ c ∷ f ∷ [] → budgets_of items ≡ b ∷ [] → with_budget c f b ≡ None → 0 < length (budgets_of items) → Which c → IsRefused items
     by_budget b eo eb none some (solves e) =
         no_budget b (ap (λ (l : List Text). slice_get l 0) eb) (solved_none f (budget_of b) (subst (λ (t : Text). with_budget t f b ≡ None) e none))
+    by_budget b eo eb none some (samples e) = elim (unsampled f (budget_of b) (subst (λ (t : Text). with_budget t f b ≡ None) e none)) [
+      | inl no_number ↦ no_budget b (ap (λ (l : List Text). slice_get l 0) eb) no_number
+      | inr no_number ↦ no_nodes f (named [] (codes "sample") eo e) (first_named [] eo) no_number
+    ]
     by_budget b eo eb none some (examines e) = budget_given (inl (named [] (codes "examine") eo e)) some
     by_budget b eo eb none some (checks e) = budget_given (inr (inl (named [] (codes "check") eo e))) some
     by_budget b eo eb none some (draws e) = budget_given (inr (inr (named [] (codes "draw") eo e))) some
     by_budget b eo eb none some (others other) = none_named [] eo other
 
     by_two : (s : Text) → operands_of items ≡ c ∷ f ∷ s ∷ [] → with_two c f s ≡ None → Which c → IsRefused items
-    by_two s eo none (solves e) = second_given (inl (named (s ∷ []) (codes "solve") eo e)) (sized (c ∷ f ∷ s ∷ []) eo)
+    by_two s eo none (solves e) = second_given (inl (inl (named (s ∷ []) (codes "solve") eo e))) (sized (c ∷ f ∷ s ∷ []) eo)
+    by_two s eo none (samples e) = second_given (inl (inr (named (s ∷ []) (codes "sample") eo e))) (sized (c ∷ f ∷ s ∷ []) eo)
     by_two s eo none (examines e) = second_given (inr (named (s ∷ []) (codes "examine") eo e)) (sized (c ∷ f ∷ s ∷ []) eo)
     by_two s eo none (checks e) = absurd (check_with_two f s (subst (λ (t : Text). with_two t f s ≡ None) e none))
     by_two s eo none (draws e) = absurd (draw_with_two f s (subst (λ (t : Text). with_two t f s ≡ None) e none))
     by_two s eo none (others other) = none_named (s ∷ []) eo other
 
     by_both : (s : Text) → operands_of items ≡ c ∷ f ∷ s ∷ [] → 0 < length (budgets_of items) → Which c → IsRefused items
-    by_both s eo some (solves e) = second_given (inl (named (s ∷ []) (codes "solve") eo e)) (sized (c ∷ f ∷ s ∷ []) eo)
+    by_both s eo some (solves e) = second_given (inl (inl (named (s ∷ []) (codes "solve") eo e))) (sized (c ∷ f ∷ s ∷ []) eo)
+    by_both s eo some (samples e) = second_given (inl (inr (named (s ∷ []) (codes "sample") eo e))) (sized (c ∷ f ∷ s ∷ []) eo)
     by_both s eo some (examines e) = second_given (inr (named (s ∷ []) (codes "examine") eo e)) (sized (c ∷ f ∷ s ∷ []) eo)
     by_both s eo some (checks e) = budget_given (inr (inl (named (s ∷ []) (codes "check") eo e))) some
     by_both s eo some (draws e) = budget_given (inr (inr (named (s ∷ []) (codes "draw") eo e))) some
@@ -179,7 +214,8 @@ module _ (items : List Item) where
       renamed this e = has ∙ ap (λ (t : Text). Some t) e
 
       go : Which c → IsOther c
-      go (solves e) = absurd (not_known (inl (inl (renamed (codes "solve") e))))
+      go (solves e) = absurd (not_known (inl (inl (inl (renamed (codes "solve") e)))))
+      go (samples e) = absurd (not_known (inl (inl (inr (renamed (codes "sample") e)))))
       go (examines e) = absurd (not_known (inl (inr (renamed (codes "examine") e))))
       go (checks e) = absurd (not_known (inr (inl (renamed (codes "check") e))))
       go (draws e) = absurd (not_known (inr (inr (renamed (codes "draw") e))))
@@ -199,11 +235,16 @@ module _ (items : List Item) where
   is_this : (c this : Text) (more : List Text) → operands_of items ≡ c ∷ more → HasCommand items this → c ≡ this
   is_this c this more eo has = one_command items c this (ap (λ (l : List Text). slice_get l 0) eo) has
 
+  no_budget_for : (c f b this : Text) → operands_of items ≡ c ∷ f ∷ [] → HasCommand items this → bytes_eq this (codes "solve") ≡ false → bytes_eq this (codes "sample") ≡ false → with_budget c f b ≡ None
+  no_budget_for c f b this eo has not_solve not_sample =
+      ap (λ (t : Text). with_budget t f b) (is_this c this (f ∷ []) eo has) ∙ within_other this f (budget_of b) not_solve not_sample
+
   by_second : (operands budgets : List Text) → operands_of items ≡ operands → TakesOne items → length operands ≡ 3 → asked_by operands budgets ≡ None
   by_second [] budgets eo one three = refl
   by_second (c ∷ []) budgets eo one three = refl
   by_second (c ∷ f ∷ []) budgets eo one three = absurd (omega arith)
-  by_second (c ∷ f ∷ s ∷ []) [] eo (inl solve) three = ap (λ (t : Text). with_two t f s) (is_this c (codes "solve") (f ∷ s ∷ []) eo solve)
+  by_second (c ∷ f ∷ s ∷ []) [] eo (inl (inr sample)) three = ap (λ (t : Text). with_two t f s) (is_this c (codes "sample") (f ∷ s ∷ []) eo sample)
+  by_second (c ∷ f ∷ s ∷ []) [] eo (inl (inl solve)) three = ap (λ (t : Text). with_two t f s) (is_this c (codes "solve") (f ∷ s ∷ []) eo solve)
   by_second (c ∷ f ∷ s ∷ []) [] eo (inr examine) three = ap (λ (t : Text). with_two t f s) (is_this c (codes "examine") (f ∷ s ∷ []) eo examine)
   by_second (c ∷ f ∷ s ∷ []) (b ∷ more) eo one three = refl
   by_second (c ∷ f ∷ s ∷ x ∷ more) budgets eo one three = refl
@@ -213,8 +254,8 @@ module _ (items : List Item) where
   by_missing (c ∷ []) budgets eo two_files two = refl
   by_missing (c ∷ f ∷ []) [] eo (inl check) two = ap (λ (t : Text). with_one t f) (is_this c (codes "check") (f ∷ []) eo check)
   by_missing (c ∷ f ∷ []) [] eo (inr draw) two = ap (λ (t : Text). with_one t f) (is_this c (codes "draw") (f ∷ []) eo draw)
-  by_missing (c ∷ f ∷ []) (b ∷ []) eo (inl check) two = ap (λ (t : Text). with_budget t f b) (is_this c (codes "check") (f ∷ []) eo check)
-  by_missing (c ∷ f ∷ []) (b ∷ []) eo (inr draw) two = ap (λ (t : Text). with_budget t f b) (is_this c (codes "draw") (f ∷ []) eo draw)
+  by_missing (c ∷ f ∷ []) (b ∷ []) eo (inl check) two = no_budget_for c f b (codes "check") eo check refl refl
+  by_missing (c ∷ f ∷ []) (b ∷ []) eo (inr draw) two = no_budget_for c f b (codes "draw") eo draw refl refl
   by_missing (c ∷ f ∷ []) (a ∷ b ∷ more) eo two_files two = refl
   by_missing (c ∷ f ∷ s ∷ more) budgets eo two_files two = absurd (omega arith)
 
@@ -223,9 +264,9 @@ module _ (items : List Item) where
   by_given operands (a ∷ b ∷ more) eo known some = twice_ask_nothing operands (a ∷ b ∷ more) (omega arith)
   by_given [] (b ∷ []) eo known some = refl
   by_given (c ∷ []) (b ∷ []) eo known some = refl
-  by_given (c ∷ f ∷ []) (b ∷ []) eo (inl examine) some = ap (λ (t : Text). with_budget t f b) (is_this c (codes "examine") (f ∷ []) eo examine)
-  by_given (c ∷ f ∷ []) (b ∷ []) eo (inr (inl check)) some = ap (λ (t : Text). with_budget t f b) (is_this c (codes "check") (f ∷ []) eo check)
-  by_given (c ∷ f ∷ []) (b ∷ []) eo (inr (inr draw)) some = ap (λ (t : Text). with_budget t f b) (is_this c (codes "draw") (f ∷ []) eo draw)
+  by_given (c ∷ f ∷ []) (b ∷ []) eo (inl examine) some = no_budget_for c f b (codes "examine") eo examine refl refl
+  by_given (c ∷ f ∷ []) (b ∷ []) eo (inr (inl check)) some = no_budget_for c f b (codes "check") eo check refl refl
+  by_given (c ∷ f ∷ []) (b ∷ []) eo (inr (inr draw)) some = no_budget_for c f b (codes "draw") eo draw refl refl
   by_given (c ∷ f ∷ s ∷ []) (b ∷ []) eo known some = refl
   by_given (c ∷ f ∷ s ∷ x ∷ rest) (b ∷ []) eo known some = refl
 
@@ -234,6 +275,20 @@ module _ (items : List Item) where
   by_unspelled (b ∷ more) word has none =
       let is : word ≡ b = cc in
       unspelled_ask_nothing (operands_of items) b more (subst (λ (w : Text). budget_of w ≡ None) is none)
+
+  by_nodes : (operands budgets : List Text) (word : Text) → operands_of items ≡ operands → HasCommand items (codes "sample") → slice_get operands 1 ≡ Some word → nodes_of word ≡ None → asked_by operands budgets ≡ None
+  by_nodes [] budgets word eo sample first none = refl
+  by_nodes (c ∷ []) budgets word eo sample first none = refl
+  by_nodes (c ∷ f ∷ []) [] word eo sample first none =
+      let is : f ≡ word = cc in
+      ap (λ (t : Text). with_one t f) (is_this c (codes "sample") (f ∷ []) eo sample) ∙ ap (λ (nodes : Option ℕ). sampled_by nodes usual_budget) (ap nodes_of is ∙ none)
+  by_nodes (c ∷ f ∷ []) (b ∷ []) word eo sample first none =
+      let is : f ≡ word = cc in
+      ap (λ (t : Text). with_budget t f b) (is_this c (codes "sample") (f ∷ []) eo sample) ∙ no_sample f (budget_of b) (ap nodes_of is ∙ none)
+  by_nodes (c ∷ f ∷ []) (a ∷ b ∷ more) word eo sample first none = refl
+  by_nodes (c ∷ f ∷ s ∷ []) [] word eo sample first none = ap (λ (t : Text). with_two t f s) (is_this c (codes "sample") (f ∷ s ∷ []) eo sample)
+  by_nodes (c ∷ f ∷ s ∷ []) (b ∷ more) word eo sample first none = refl
+  by_nodes (c ∷ f ∷ s ∷ x ∷ more) budgets word eo sample first none = refl
 
   asks_nothing : IsRefused items → request_by items ≡ None
   asks_nothing (stray_word c) = by_useless (contained items stray refl c)
@@ -246,6 +301,7 @@ module _ (items : List Item) where
   asks_nothing (second_missing two_files two) = by_asked (by_missing (operands_of items) (budgets_of items) refl two_files two)
   asks_nothing (budget_given known some) = by_asked (by_given (operands_of items) (budgets_of items) refl known some)
   asks_nothing (no_budget word has none) = by_asked (by_unspelled (budgets_of items) word has none)
+  asks_nothing (no_nodes word sample first none) = by_asked (by_nodes (operands_of items) (budgets_of items) word refl sample first none)
 
 pub refused_exactly : RefusedExactly
 refused_exactly words = (is_refused (items_of (after_name words)), asks_nothing (items_of (after_name words)))

@@ -1,7 +1,7 @@
 // The command of the words.
-ghost use Rattle.std.specs.Prelude.{◌≡◌, ◌≤◌, IfOk, IfSome, Some};
-ghost use Rattle.xn_command.specs.Gives.{GivesCommand, GivesRequest, HasSmallBudget};
-ghost use Rattle.xn_command.specs.Request.{budget_of, most_budget, solve, with_budget, with_one, with_two};
+ghost use Rattle.std.specs.Prelude.{◌≡◌, ◌≤◌, IfOk, IfSome};
+ghost use Rattle.xn_command.specs.Gives.{GivesCommand, GivesRequest, IsWithinLimits};
+ghost use Rattle.xn_command.specs.Request.{budget_of, fewest_nodes, most_budget, most_nodes, nodes_of, with_budget, with_one, with_two, within};
 ghost use Rattle.xn_command.specs.declared.command.WordsErr.TheVariants.{Memory};
 
 use crate::parse::parse;
@@ -15,6 +15,11 @@ const USUAL_BUDGET: u64 = 10_000;
 
 const MOST_BUDGET: u64 = 200_000;
 
+// The fewest nodes of a sample graph, and the most.
+const FEWEST_NODES: u64 = 3;
+
+const MOST_NODES: u64 = 400;
+
 /// What the program is asked to do, with the names of the files.
 #[derive(Debug, Drop)]
 pub enum Command {
@@ -22,6 +27,13 @@ pub enum Command {
     Solve {
         /// The name of the graph's file.
         graph: String,
+        /// How many tree nodes may be opened, at most 200,000.
+        budget: u64,
+    },
+    /// Searches the sample graph of so many nodes, as `Solve` does the graph of a file.
+    Sample {
+        /// The number of nodes, from 3 to 400.
+        nodes: u32,
         /// How many tree nodes may be opened, at most 200,000.
         budget: u64,
     },
@@ -70,7 +82,7 @@ impl From<AllocError> for WordsErr {
 /// Words that ask for nothing are `Refused`. A request for help or for the version is one of them.
 pub fn read_words(alloc: Global, words: &[String]) -> Result<Command, WordsErr>
     ensures gives { GivesCommand words.now result }
-    ensures small { IfOk result HasSmallBudget }
+    ensures small { IfOk result IsWithinLimits }
 {
     let matches = match parse(alloc, words) {
         Ok(matches) => matches,
@@ -94,14 +106,11 @@ pub fn read_words(alloc: Global, words: &[String]) -> Result<Command, WordsErr>
 // The command with one operand after it, and a budget.
 fn with_budget(alloc: Global, command: &str, first: &str, word: &str) -> Result<Command, WordsErr>
     ensures gives { GivesRequest (with_budget command.now first.now word.now) result }
-    ensures small { IfOk result HasSmallBudget }
+    ensures small { IfOk result IsWithinLimits }
 {
-    match command {
-        "solve" => match budget_in(word) {
-            Some(budget) => solve_within(alloc, first, budget),
-            None => Err(WordsErr::Refused),
-        },
-        _ => Err(WordsErr::Refused),
+    match budget_in(word) {
+        Some(budget) => within(alloc, command, first, budget),
+        None => Err(WordsErr::Refused),
     }
 }
 
@@ -116,36 +125,53 @@ fn budget_in(word: &str) -> Option<u64>
     }
 }
 
-// The command that solves a graph within a budget.
-fn solve_within(alloc: Global, graph: &str, budget: u64) -> Result<Command, WordsErr>
+// The command that searches within a budget.
+fn within(alloc: Global, command: &str, first: &str, budget: u64) -> Result<Command, WordsErr>
     requires { budget ≤ most_budget }
-    ensures gives { GivesRequest (Some (solve graph.now budget)) result }
-    ensures small { IfOk result HasSmallBudget }
+    ensures gives { GivesRequest (within command.now first.now budget) result }
+    ensures small { IfOk result IsWithinLimits }
 {
-    Ok(Command::Solve {
-        graph: String::from_str(alloc, graph)?,
-        budget,
-    })
+    match command {
+        "solve" => Ok(Command::Solve {
+            graph: String::from_str(alloc, first)?,
+            budget,
+        }),
+        "sample" => match nodes_in(first) {
+            Some(nodes) => Ok(Command::Sample { nodes, budget }),
+            None => Err(WordsErr::Refused),
+        },
+        _ => Err(WordsErr::Refused),
+    }
+}
+
+// The number of nodes that a word spells, if there is a sample graph of so many.
+fn nodes_in(word: &str) -> Option<u32>
+    ensures is { result ≡ nodes_of word.now }
+    ensures small { IfSome result (λ n. (fewest_nodes ≤ n) × (n ≤ most_nodes)) }
+{
+    match word_u64(word.as_bytes()) {
+        WordNumber::Is(nodes) if FEWEST_NODES <= nodes && nodes <= MOST_NODES => Some(nodes as u32),
+        _ => None,
+    }
 }
 
 // The command with one operand after it.
 fn with_one(alloc: Global, command: &str, first: &str) -> Result<Command, WordsErr>
     ensures gives { GivesRequest (with_one command.now first.now) result }
-    ensures small { IfOk result HasSmallBudget }
+    ensures small { IfOk result IsWithinLimits }
 {
     match command {
-        "solve" => solve_within(alloc, first, USUAL_BUDGET),
         "examine" => Ok(Command::Examine {
             answer: String::from_str(alloc, first)?,
         }),
-        _ => Err(WordsErr::Refused),
+        _ => within(alloc, command, first, USUAL_BUDGET),
     }
 }
 
 // The command with two operands after it.
 fn with_two(alloc: Global, command: &str, first: &str, second: &str) -> Result<Command, WordsErr>
     ensures gives { GivesRequest (with_two command.now first.now second.now) result }
-    ensures small { IfOk result HasSmallBudget }
+    ensures small { IfOk result IsWithinLimits }
 {
     match command {
         "check" => Ok(Command::Check {

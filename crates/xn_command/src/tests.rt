@@ -10,6 +10,7 @@ fn asked(alloc: Global, line: &str) -> Result<String, Fail> {
     }
     let shown = match read_words(alloc, &words) {
         Ok(Command::Solve { graph, budget }) => format!(in alloc; "solve {graph} {budget}")?,
+        Ok(Command::Sample { nodes, budget }) => format!(in alloc; "sample {nodes} {budget}")?,
         Ok(Command::Check { graph, answer }) => format!(in alloc; "check {graph} {answer}")?,
         Ok(Command::Examine { answer }) => format!(in alloc; "examine {answer}")?,
         Ok(Command::Draw { graph, answer }) => format!(in alloc; "draw {graph} {answer}")?,
@@ -57,6 +58,23 @@ fn budgets_are_read(rt: HostRuntime) -> Result<(), Fail> {
 }
 
 #[test]
+fn numbers_of_nodes_are_read(rt: HostRuntime) -> Result<(), Fail> {
+    let alloc = rt.alloc();
+    assert!(rt; asks(alloc, "xnum sample 8", "sample 8 10000")?);
+    assert!(rt; asks(alloc, "xnum sample 3 --budget 0", "sample 3 0")?);
+    assert!(rt; asks(alloc, "xnum --budget=7 sample -- 400", "sample 400 7")?);
+    assert!(rt; is_refused(alloc, "xnum sample 2")?);
+    assert!(rt; is_refused(alloc, "xnum sample 401")?);
+    assert!(rt; is_refused(alloc, "xnum sample 4294967299")?);
+    assert!(rt; is_refused(alloc, "xnum sample 08")?);
+    assert!(rt; is_refused(alloc, "xnum sample x")?);
+    assert!(rt; is_refused(alloc, "xnum sample 8 x")?);
+    assert!(rt; is_refused(alloc, "xnum sample 8 --budget 200001")?);
+    assert!(rt; is_refused(alloc, "xnum sample")?);
+    Ok(())
+}
+
+#[test]
 fn words_that_name_no_command_are_refused(rt: HostRuntime) -> Result<(), Fail> {
     let alloc = rt.alloc();
     assert!(rt; is_refused(alloc, "xnum")?);
@@ -64,8 +82,6 @@ fn words_that_name_no_command_are_refused(rt: HostRuntime) -> Result<(), Fail> {
     assert!(rt; is_refused(alloc, "xnum solve a b")?);
     assert!(rt; is_refused(alloc, "xnum check a")?);
     assert!(rt; is_refused(alloc, "xnum cross a")?);
-    assert!(rt; is_refused(alloc, "xnum sample 2")?);
-    assert!(rt; is_refused(alloc, "xnum sample 401")?);
     assert!(rt; is_refused(alloc, "xnum examine a b")?);
     assert!(rt; is_refused(alloc, "xnum check a b c")?);
     assert!(rt; is_refused(alloc, "xnum Examine a")?);

@@ -28,20 +28,20 @@ const TURNS_AFTER: u32 = 16;
 /// Decides by linear programs of the known rows (after the branch and cut of Buchheim and others, 2008), with
 /// cutters that find more rows, and by planting where the program of a state doesn't close it.
 #[derive(Drop)]
-pub struct ByPrograms<P> {
+pub struct ByPrograms<'a, P> {
     /// What tests the webs.
     pub planes: P,
     /// What finds rows, in the order in which they are asked: those after the first only where the point has
     /// a value from 1/2 on below 1.
-    pub cutters: Vec<Box<dyn Cutter>>,
+    pub cutters: &'a mut Vec<Box<dyn Cutter>>,
     hints: Hints,
     // How many states were decided.
     decided: u64,
 }
 
-impl<P: Planes> ByPrograms<P> {
-    /// A decider that knows no rows yet. It takes no memory.
-    pub fn new(alloc: Global, planes: P, cutters: Vec<Box<dyn Cutter>>) -> Self {
+impl<'a, P: Planes> ByPrograms<'a, P> {
+    /// A decider that knows no rows yet, and has the cutters lent. It takes no memory.
+    pub fn new(alloc: Global, planes: P, cutters: &'a mut Vec<Box<dyn Cutter>>) -> Self {
         ByPrograms {
             planes,
             cutters,
@@ -126,7 +126,7 @@ impl<P: Planes> ByPrograms<P> {
             pairs,
             rows,
             &mut self.hints,
-            &mut self.cutters,
+            self.cutters,
             TURNS_AFTER,
         )?;
         Ok(leaf)
@@ -167,7 +167,7 @@ impl<P: Planes> ByPrograms<P> {
     }
 }
 
-impl<P: Planes> Decider for ByPrograms<P> {
+impl<'a, P: Planes> Decider for ByPrograms<'a, P> {
     fn decide(
         &mut self,
         alloc: Global,
@@ -186,7 +186,7 @@ impl<P: Planes> Decider for ByPrograms<P> {
             pairs.as_slice(),
             rows,
             &mut self.hints,
-            &mut self.cutters,
+            self.cutters,
             TURNS_BEFORE,
         )?;
         if let Some(leaf) = leaf {

@@ -10,6 +10,8 @@ mod leaves;
 mod lines;
 mod points;
 mod programs;
+mod solving;
 mod turns;
 
 pub use deciding::ByPrograms;
+pub use solving::solve;

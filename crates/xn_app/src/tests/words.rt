@@ -14,6 +14,9 @@ fn other_words_are_refused(rt: HostRuntime) -> Result<(), Fail> {
         "xnum examine a b",
         "xnum examine a -x",
         "xnum draw a b --budget 1",
+        "xnum sample 2",
+        "xnum sample 401",
+        "xnum sample 8 x",
         "xnum check a b --budget",
     ] {
         let (written, status) = ended(alloc, line, "", "")?;

@@ -17,6 +17,9 @@ returns-clause-exits g c =
         shown = top.shown;
         number = top.number;
         undecided = top.undecided;
+        alone = top.alone;
+        sample_number = top.sample_number;
+        sample_undecided = top.sample_undecided;
         shows = top.shows;
         begun = top.begun;
         last = top.last;
@@ -36,3 +39,8 @@ pub returns-clause-number : goal.returns-clause-number
 returns-clause-number g c =
     λ graph budget asks zero.
     c.top-end.ensures.number graph budget asks (zero_is_done c.top-end.result (sym zero ∙ c.tell.ensures.code))
+
+pub returns-clause-sample_number : goal.returns-clause-sample_number
+returns-clause-sample_number g c =
+    λ nodes budget asks zero.
+    c.top-end.ensures.sample_number nodes budget asks (zero_is_done c.top-end.result (sym zero ∙ c.tell.ensures.code))

@@ -1,12 +1,14 @@
-use Rattle.std.proofs.Common.{◌⊎◌, IfSome, rules}
+use Rattle.std.proofs.Common.{◌⊎◌, IfSome, rules, sym, subst, ◌∙◌}
 use Rattle.xn_command.specs.Gives.{request_of_command, words_request}
-use Rattle.xn_command.specs.Request.{check, draw, examine, solve}
+use Rattle.xn_command.specs.Request.{Request, check, draw, examine, sample, solve}
 use Rattle.xn_app.specs.Ends.{Finishes, Quits}
+use Rattle.xn_app.specs.Files.{Shows, WithFile, WithoutFile}
 use Rattle.xn_app.specs.Outcome.{AreOneEnd, ComesTo, Outcome}
 use Rattle.xn_app.specs.Status.{IsAside, IsEarly, IsVerdictEnd}
-use Rattle.xn_app.proofs.Ends.{asked_is, asked_same, never_words, ran_on}
+use Rattle.xn_app.proofs.Ends.{asked_is, asked_same, finished_shows, never_asked, never_words, ran_on, with_file, without_file}
 use Rattle.xn_app.proofs.OneOutcome.{early_told, exact_told}
 use Rattle.xn_app.proofs.Outcomes.{checked_done, drawn_done, examined_done}
+use Rattle.xn_app.proofs.Samples.{finished_alone, sampled_done, sampled_undecided, wanting_alone}
 use Rattle.xn_app.proofs.Searches.{solved_done, solved_undecided}
 use Rattle.xn_app.proofs.top_call.top.Goals as goal
 
@@ -130,3 +132,76 @@ returns-in-Err-clause-exact g c =
     let laws = c.one_outcome.ensures in
     asked_is (words_request c.args.words.now) r (λ asked. IfSome told (λ files. (outcome : Outcome) → ComesTo files asked outcome → IsAside end ⊎ AreOneEnd asked end outcome.0))
     c.in-Ok.ensures.gives (early_told laws.verdict laws.draw laws.front told r end early quits)
+
+pub returns-in-Ok-work-clause-alone : goal.returns-in-Ok-work-clause-alone
+returns-in-Ok-work-clause-alone g c =
+    λ nodes budget asks.
+    let r = request_of_command c.in-Ok.command in
+    let old = g.K.Sink.taken c.args.out.now in
+    let new = g.K.Sink.taken c.finish.new.out in
+    let end = c.finish.result in
+    let is = asked_same (words_request c.args.words.now) r (sample nodes budget) c.in-Ok.ensures.gives asks in
+    let ran = finished_alone r nodes budget c.in-Ok-work.status c.in-Ok-work.output.items old new (g.K.Sink.faults c.args.out.now) (g.K.Sink.faults c.finish.new.out) end is c.in-Ok-work.ensures.alone (search rules) in
+    ran
+
+pub returns-in-Ok-work-clause-sample_number : goal.returns-in-Ok-work-clause-sample_number
+returns-in-Ok-work-clause-sample_number g c =
+    λ nodes budget asks done.
+    let r = request_of_command c.in-Ok.command in
+    let old = g.K.Sink.taken c.args.out.now in
+    let new = g.K.Sink.taken c.finish.new.out in
+    let end = c.finish.result in
+    let is = asked_same (words_request c.args.words.now) r (sample nodes budget) c.in-Ok.ensures.gives asks in
+    let ran = finished_alone r nodes budget c.in-Ok-work.status c.in-Ok-work.output.items old new (g.K.Sink.faults c.args.out.now) (g.K.Sink.faults c.finish.new.out) end is c.in-Ok-work.ensures.alone (search rules) in
+    sampled_done c.accepted_bounds.ensures nodes budget old new end done ran
+
+pub returns-in-Ok-work-clause-sample_undecided : goal.returns-in-Ok-work-clause-sample_undecided
+returns-in-Ok-work-clause-sample_undecided g c =
+    λ nodes budget lower upper spent asks ended.
+    let r = request_of_command c.in-Ok.command in
+    let old = g.K.Sink.taken c.args.out.now in
+    let new = g.K.Sink.taken c.finish.new.out in
+    let end = c.finish.result in
+    let is = asked_same (words_request c.args.words.now) r (sample nodes budget) c.in-Ok.ensures.gives asks in
+    let ran = finished_alone r nodes budget c.in-Ok-work.status c.in-Ok-work.output.items old new (g.K.Sink.faults c.args.out.now) (g.K.Sink.faults c.finish.new.out) end is c.in-Ok-work.ensures.alone (search rules) in
+    sampled_undecided c.accepted_bounds.ensures nodes budget old new lower upper spent end ended ran
+
+pub returns-in-Err-clause-alone : goal.returns-in-Err-clause-alone
+returns-in-Err-clause-alone g c =
+    λ nodes budget asks.
+    let r = request_of_command c.in-Ok.command in
+    let out = g.K.Sink.taken c.args.out.now in
+    let end = c.in-Err.status in
+    let is = asked_same (words_request c.args.words.now) r (sample nodes budget) c.in-Ok.ensures.gives asks in
+    let ran = wanting_alone r nodes budget end out out is c.in-Err.ensures.wanting in
+    ran
+
+pub returns-in-Err-clause-sample_number : goal.returns-in-Err-clause-sample_number
+returns-in-Err-clause-sample_number g c =
+    λ nodes budget asks done.
+    let r = request_of_command c.in-Ok.command in
+    let out = g.K.Sink.taken c.args.out.now in
+    let end = c.in-Err.status in
+    let is = asked_same (words_request c.args.words.now) r (sample nodes budget) c.in-Ok.ensures.gives asks in
+    let ran = wanting_alone r nodes budget end out out is c.in-Err.ensures.wanting in
+    sampled_done c.accepted_bounds.ensures nodes budget out out end done ran
+
+pub returns-in-Err-clause-sample_undecided : goal.returns-in-Err-clause-sample_undecided
+returns-in-Err-clause-sample_undecided g c =
+    λ nodes budget lower upper spent asks ended.
+    let r = request_of_command c.in-Ok.command in
+    let out = g.K.Sink.taken c.args.out.now in
+    let end = c.in-Err.status in
+    let is = asked_same (words_request c.args.words.now) r (sample nodes budget) c.in-Ok.ensures.gives asks in
+    let ran = wanting_alone r nodes budget end out out is c.in-Err.ensures.wanting in
+    sampled_undecided c.accepted_bounds.ensures nodes budget out out lower upper spent end ended ran
+
+pub returns-in-Ok-work-clause-unread : goal.returns-in-Ok-work-clause-unread
+returns-in-Ok-work-clause-unread g c =
+    λ nodes budget asks.
+    without_file (words_request c.args.words.now) (request_of_command c.in-Ok.command) nodes budget c.in-Ok.ensures.gives asks c.in-Ok-work.ensures.unread
+
+pub returns-in-Err-clause-unread : goal.returns-in-Err-clause-unread
+returns-in-Err-clause-unread g c =
+    λ nodes budget asks.
+    without_file (words_request c.args.words.now) (request_of_command c.in-Ok.command) nodes budget c.in-Ok.ensures.gives asks c.in-Err.ensures.unread
