@@ -4,7 +4,7 @@ use Rattle.std.specs.List.{flat_map, range_with_len}
 use Rattle.std.proofs.lemmas.Bool.{both_ways, cases_Bool, cases_lt, eqb-true}
 use Rattle.std.proofs.lemmas.List.{length-map}
 use Rattle.std.proofs.lemmas.List.FromFn.{get_or-map-range_with_len, length-range_with_len}
-use Rattle.xn_model.specs.Drawing.{IsAtMost, IsDrawing, IsAtLeast, order_of}
+use Rattle.xn_model.specs.Drawing.{IsAtMost, IsSimpleDrawing, IsAtLeast, order_of}
 use Rattle.xn_model.specs.Graph.{Graph, edges_of, ends_at}
 use Rattle.xn_model.specs.Lists.{at, has, position_in, total}
 use Rattle.xn_model.specs.Map.{IsFlat, face_count, face_step, is_lone, reverse_of, tail_of}
@@ -108,8 +108,8 @@ module _ (web : Graph) (next turns : ℕ → ℕ) (same : (d : ℕ) → d < 2 * 
       }
 
 -- the same drawing, whose rotation is a list
-listed_rotation : (g : Graph) (ord : ℕ → List ℕ) (next : ℕ → ℕ) → IsDrawing g ord next →
-    IsDrawing g ord (at (turns_of (2 * length (web_of g (edges_of g) ord).ends) next))
+listed_rotation : (g : Graph) (ord : ℕ → List ℕ) (next : ℕ → ℕ) → IsSimpleDrawing g ord next →
+    IsSimpleDrawing g ord (at (turns_of (2 * length (web_of g (edges_of g) ord).ends) next))
 listed_rotation g ord next drawn =
     let es = edges_of g in
     let web = web_of g es ord in
@@ -148,7 +148,7 @@ lists_from_at_most g k drawing =
         drawing = record {
           lists_fit = length-map es ord ∙ length-range_with_len 0 (length g.ends);
           next_fits = length-turns n drawing.1.1 ∙ ap (λ (o : ℕ → List ℕ). 2 * length (web_of g es o).ends) (sym same);
-          drawing = subst (λ (o : ℕ → List ℕ). IsDrawing g o (at turns)) (sym same) (listed_rotation g ord drawing.1.1 drawn);
+          drawing = subst (λ (o : ℕ → List ℕ). IsSimpleDrawing g o (at turns)) (sym same) (listed_rotation g ord drawing.1.1 drawn);
         };
         few = subst (λ (o : ℕ → List ℕ). crossing_count g o ≤ k) (sym same) few;
       };

@@ -1,7 +1,7 @@
 -- What evidence shows.
 use Rattle.std.specs.Prelude.{◌≡◌, ℕ, ◌<◌, ◌⊎◌, true, List, length, nat_eq, reverse}
 use Rattle.std.specs.List.{IsDistinct}
-use Rattle.xn_model.specs.Drawing.{IsCrossingNumber, IsDrawing, IsAtLeast}
+use Rattle.xn_model.specs.Drawing.{IsCrossingNumber, IsSimpleDrawing, IsAtLeast}
 use Rattle.xn_model.specs.Evidence.{IsPathSystem}
 use Rattle.xn_model.specs.Examples.{k33, k5}
 use Rattle.xn_model.specs.Graph.{Graph}
@@ -33,7 +33,7 @@ EvidenceExcludesFlat =
 -- a drawing without crossings is a flat map of the graph itself
 abbrev pub CrossingFreeIsFlat : Type 0
 CrossingFreeIsFlat =
-    (g : Graph) (ord : ℕ → List ℕ) (next : ℕ → ℕ) → IsDrawing g ord next → crossing_count g ord ≡ 0 → IsFlat g next
+    (g : Graph) (ord : ℕ → List ℕ) (next : ℕ → ℕ) → IsSimpleDrawing g ord next → crossing_count g ord ≡ 0 → IsFlat g next
 
 -- so an evidence of either kind for the graph shows that each drawing has a crossing
 abbrev pub EvidenceOfCrossings : Type 0

@@ -2,7 +2,7 @@
 use Rattle.std.proofs.Common.{◌≡◌, ℕ, ◌-◌, ◌<◌, inl, inr, Bool, true, false, List, [], ◌∷◌, length, refl, sym, ◌∙◌, ap, ap₂, arith, cond, eqb}
 use Rattle.std.specs.Prelude.{Some, None, filter}
 use Rattle.std.proofs.lemmas.Bool.{and_parts, both_ways, cases_Bool, cases_order, eqb-true, or_cases}
-use Rattle.xn_model.specs.Drawing.{HasDrawingWith, IsDrawing}
+use Rattle.xn_model.specs.Drawing.{HasDrawingWith, IsSimpleDrawing}
 use Rattle.xn_model.specs.Graph.{Graph, IsGraph, each_two, edges_of, pairs_of}
 use Rattle.xn_model.specs.Lists.{has, neighbours, one_if, total}
 use Rattle.xn_model.specs.Orders.{crossing_count}
@@ -38,7 +38,7 @@ none_kept p (q ∷ ps) none e f there kept = elim (cases_Bool (p q)) [
   ]
 ]
 
-module _ (g : Graph) (ord : ℕ → List ℕ) (next : ℕ → ℕ) (drawing : IsDrawing g ord next) (none : crossing_count g ord ≡ 0) where
+module _ (g : Graph) (ord : ℕ → List ℕ) (next : ℕ → ℕ) (drawing : IsSimpleDrawing g ord next) (none : crossing_count g ord ≡ 0) where
   ordered : (e f : ℕ) → e < f → has (ord e) f ≡ true → ⊥
   ordered e f less there =
       let e_in = drawing.orders.within e f there in

@@ -1,6 +1,6 @@
 -- What rows and proof trees show of every drawing.
 use Rattle.std.specs.Prelude.{◌≡◌, ℕ, ◌<◌, ◌≤◌, List, length, slice_index_or, All}
-use Rattle.xn_model.specs.Drawing.{IsDrawing, IsAtLeast}
+use Rattle.xn_model.specs.Drawing.{IsSimpleDrawing, IsAtLeast}
 use Rattle.xn_model.specs.Examples.{k5}
 use Rattle.xn_model.specs.Graph.{Graph, IsGraph, edges_of}
 use Rattle.xn_model.specs.Map.{IsFlat}
@@ -29,7 +29,7 @@ EvidenceExcludesFlatMaps = (web : Graph) (evidence : Evidence) → EvidenceHolds
 
 -- in every drawing the value of the row is at least 1
 abbrev pub IsMet : Graph → Row → Type 0
-IsMet g row = (ord : ℕ → List ℕ) (next : ℕ → ℕ) → IsDrawing g ord next → 1 ≤ value_of g row (values_in ord)
+IsMet g row = (ord : ℕ → List ℕ) (next : ℕ → ℕ) → IsSimpleDrawing g ord next → 1 ≤ value_of g row (values_in ord)
 
 -- a row that holds is met by every drawing
 abbrev pub RowsAreMet : Type 0
@@ -51,19 +51,19 @@ LiesInOne ord states = (i : ℕ) × (i < length states) × LiesIn ord (slice_ind
 abbrev pub DrawingsLieInChildren : Type 0
 DrawingsLieInChildren =
     (g : Graph) (k : ℕ) (rows : List Row) (s : State) (node : Node) → MayOpen g k rows s node → IsInner node →
-    (ord : ℕ → List ℕ) (next : ℕ → ℕ) → IsDrawing g ord next → LiesIn ord s → LiesInOne ord (children s node)
+    (ord : ℕ → List ℕ) (next : ℕ → ℕ) → IsSimpleDrawing g ord next → LiesIn ord s → LiesInOne ord (children s node)
 
 -- in a leaf's state it has k crossings
 abbrev pub LeavesHaveCrossings : Type 0
 LeavesHaveCrossings =
     (g : Graph) (k : ℕ) (rows : List Row) (s : State) (d : ℕ) (parts : List (ℕ × ℕ)) → All (IsMet g) rows → MayOpen g k rows s (Leaf d parts) →
-    (ord : ℕ → List ℕ) (next : ℕ → ℕ) → IsDrawing g ord next → LiesIn ord s → k ≤ crossing_count g ord
+    (ord : ℕ → List ℕ) (next : ℕ → ℕ) → IsSimpleDrawing g ord next → LiesIn ord s → k ≤ crossing_count g ord
 
 -- so in the state from which a tree proves k it has k crossings
 abbrev pub TreesProve : Type 0
 TreesProve =
     (g : Graph) (k : ℕ) (rows : List Row) (s : State) (nodes : List Node) → All (IsMet g) rows → Proves g k rows s nodes →
-    (ord : ℕ → List ℕ) (next : ℕ → ℕ) → IsDrawing g ord next → LiesIn ord s → k ≤ crossing_count g ord
+    (ord : ℕ → List ℕ) (next : ℕ → ℕ) → IsSimpleDrawing g ord next → LiesIn ord s → k ≤ crossing_count g ord
 
 -- ---- proofs
 
