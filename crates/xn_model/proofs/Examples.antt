@@ -8,10 +8,10 @@ use Rattle.std.specs.Cmp.{nat_eq_equiv}
 use Rattle.xn_model.specs.Examples.{k4, k4_turns, K4IsFlat, K4OnTorus, k5, k5_orders, k5_walks, k5_web, k5_turns, K5WithOneCrossing, one_edge, curled_web, curled_turns, CurledEdge, parted_web, parted_turns, PartedNodes, SmallCycles, nothing, LimitOfNothing}
 use Rattle.xn_model.specs.Cycles.{IsCycle}
 use Rattle.xn_model.specs.Drawing.{CrossesAt, HasDrawingWith, IsDrawing, IsSimpleDrawing, order_of}
-use Rattle.xn_model.specs.Graph.{HasNoLoop, Independent, IsGraph, edges_of, ends_at, pair_count_of}
+use Rattle.xn_model.specs.Graph.{HasNoLoop, Independent, edges_of, ends_at, pair_count_of}
 use Rattle.xn_model.specs.Limit.{node_limit}
 use Rattle.xn_model.specs.Lists.{has, at}
-use Rattle.xn_model.specs.Loose.{GoesStraight, IsLoose, MeetsOnce, dart_count, times_walked}
+use Rattle.xn_model.specs.Loose.{GoesStraight, MeetsOnce, dart_count, times_walked}
 use Rattle.xn_model.specs.Map.{WalksTo, tail_of}
 use Rattle.xn_model.specs.Orders.{IsOrders}
 use Rattle.xn_model.specs.Permutation.{count_below}
