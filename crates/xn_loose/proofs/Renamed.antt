@@ -21,7 +21,7 @@ use Rattle.xn_fewer.proofs.Rising.{Rising, all_made, all_of, distinct-rising, ri
 use Rattle.xn_loose.specs.Renaming.{DrawingsOfEdgesAreDrawings, subgraph_of, renumbered}
 use Rattle.xn_track.specs.Tidying.{IsDrawingOfEdges}
 use Rattle.xn_track.proofs.Places.{all_not, has-at, has-mapped, positions_apart}
-use Rattle.xn_loose.proofs.InWeb.{at-map, at_position}
+use Rattle.xn_general.proofs.InWeb.{at-map, at_position}
 use Rattle.xn_track.proofs.RunsOfAll.{has-range, map-map}
 
 abbrev both : (ℕ → ℕ) → ℕ × ℕ → ℕ × ℕ
