@@ -7,6 +7,7 @@ ghost use Rattle.xn_search.specs.Solved.{IsFree, IsSolved};
 use crate::branching::{ByPlanting, counted};
 use crate::solved::{Solved, solve_from};
 use std::alloc::{AllocError, Global};
+use xn_general::laws::all_drawings;
 use xn_graph::Graph;
 use xn_kinds::Drawing;
 use xn_kinds::laws::trees_go_through_states;
@@ -43,6 +44,7 @@ fn first_drawing<P: Planes>(
     ensures flat { HasDrawingWith graph.now 0 →
         IfOk result (λ d. crossing_count graph.now (order_of graph.now d.orders) ≡ 0) }
 {
+    all_drawings();
     rows();
     trees_go_through_states();
     let _nodes = graph.nodes();

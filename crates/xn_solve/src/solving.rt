@@ -7,6 +7,7 @@ ghost use Rattle.xn_solve.specs.Answers.{Bounds, DecidesFromLimit, HasWellFormed
 use crate::maps::Maps;
 use std::alloc::{AllocError, Global};
 use xn_answers::laws::{answers, flat_graphs};
+use xn_general::laws::all_drawings;
 use xn_graph::Graph;
 use xn_search::{ByPlanting, Solved};
 use xn_sound::laws::accepted_proofs;
@@ -25,6 +26,7 @@ pub fn solve(alloc: Global, graph: &Graph, budget: u64) -> Result<Solved, AllocE
     ensures flat { HasFlat graph.now.nodes graph.now.ends → IfOk result (IsFree graph.now) }
     ensures well_formed { IfOk result (HasWellFormedAnswers graph.now budget) }
 {
+    all_drawings();
     accepted_proofs();
     answers();
     flat_graphs();
