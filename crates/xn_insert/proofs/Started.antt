@@ -217,8 +217,8 @@ started g kept lists map walks is_graph list draws are =
         loose =
             subst (λ es. IsLoose g es (length (crossings_of kept ord)) map.web (at map.next) (walk_of walks)) (sym in_it)
             (subst (λ w. IsLoose g kept (length (crossings_of kept ord)) w (at map.next) (walk_of walks)) (sym draws.web) loose);
-        once = subst (λ es. EachMeetsOnce es map.web.ends (walk_of walks)) (sym in_it) (subst (λ w. EachMeetsOnce kept w.ends (walk_of walks)) (sym draws.web) once);
       };
+      once = subst (λ es. EachMeetsOnce es map.web.ends (walk_of walks)) (sym in_it) (subst (λ w. EachMeetsOnce kept w.ends (walk_of walks)) (sym draws.web) once);
     }
 
 -- ---- whether all are in
