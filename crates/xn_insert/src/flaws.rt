@@ -2,7 +2,6 @@ ghost use Rattle.std.specs.Prelude.{◌≡◌};
 ghost use Rattle.xn_insert.specs.declared.flaws.LooseErr.TheVariants.{Memory};
 
 use std::alloc::AllocError;
-use thiserror::Error;
 use xn_graph::Euler;
 
 /// What is first wrong with a map and walks that are said to be a loose drawing of all edges of a graph.
@@ -21,13 +20,11 @@ pub enum LooseFlaw {
 }
 
 /// Why there is no loose drawing.
-#[derive(Clone, Copy, Debug, PartialEq, Eq, Error)]
+#[derive(Clone, Copy, Debug, PartialEq, Eq)]
 pub enum LooseErr {
     /// Map and walks are none, and this is their first flaw.
-    #[error("no loose drawing")]
     Flaw(LooseFlaw),
     /// There is no memory.
-    #[error("no memory")]
     Memory,
 }
 
