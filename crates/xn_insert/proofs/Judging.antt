@@ -94,7 +94,7 @@ module _ (g : Graph) (m : ListedMap) (walks : List (List ℕ)) (is : HasWalks g 
       past_all (w ∷ ws) (suc x) past = past_all ws x (omega (arith, past))
 
   pub darts_low : (i : ℕ) → i < length (darts_walked walks) → at (darts_walked walks) i < 2 * length m.web.ends
-  darts_low = flat_low (range_with_len 0 (length walks))
+  darts_low i i_in = flat_low (range_with_len 0 (length walks)) i i_in
     where
       joined_low : (bound : ℕ) (xs ys : List ℕ) → ((i : ℕ) → i < length xs → at xs i < bound) → ((i : ℕ) → i < length ys → at ys i < bound) → (i : ℕ) → i < length (xs ++ ys) → at (xs ++ ys) i < bound
       joined_low bound [] ys x_low y_low i i_in = y_low i i_in
@@ -103,7 +103,7 @@ module _ (g : Graph) (m : ListedMap) (walks : List (List ℕ)) (is : HasWalks g 
 
       flat_low : (es : List ℕ) (i : ℕ) → i < length (flat_map (walk_of walks) es) → at (flat_map (walk_of walks) es) i < 2 * length m.web.ends
       flat_low [] i i_in = absurd (omega (arith, i_in))
-      flat_low (e ∷ es) = joined_low (2 * length m.web.ends) (walk_of walks e) (flat_map (walk_of walks) es) (walk_low e) (flat_low es)
+      flat_low (e ∷ es) i i_in = joined_low (2 * length m.web.ends) (walk_of walks e) (flat_map (walk_of walks) es) (walk_low e) (flat_low es) i i_in
 
 -- ---- where walks bend
 
@@ -113,44 +113,64 @@ bends_begun m walk marks size = record {
   marks = λ v v_in. (λ is. inl is, λ either. elim either [ inl is ↦ is | inr b ↦ absurd (let low = b.1 in omega (arith, low)) ]);
 }
 
-module _ (m : ListedMap) (walk : List ℕ) (i : ℕ) (i_in : suc i < length walk) (old marks : List Bool) (was : MarksBends m walk (suc i) old marks) where
+module _ (m : ListedMap) (walk : List ℕ) (j i : ℕ) (is : suc j ≡ i) (i_in : i < length walk) (old marks : List Bool) (was : MarksBends m walk i old marks) where
+  earlier : (b : ℕ) → suc b < i + 1 → b ≢ j → suc b < i
+  earlier b low other = omega (arith, low, other, is)
+
   -- the walk goes straight there
-  pub bends_same : at m.next (at m.next (reverse_of (at walk i))) ≡ at walk (suc i) → MarksBends m walk (suc (suc i)) old marks
+  pub bends_same : at m.next (at m.next (reverse_of (at walk j))) ≡ at walk i → MarksBends m walk (i + 1) old marks
   bends_same straight = record {
     long = was.long;
     marks = λ v v_in. (
-      λ is. elim ((was.marks v v_in).0 is) [ inl before ↦ inl before | inr b ↦ inr (b.0, let low = b.1 in omega (arith, low), b.2) ],
+      λ marked. elim ((was.marks v v_in).0 marked) [ inl before ↦ inl before | inr b ↦ inr (b.0, (let low = b.1 in omega (arith, low)), b.2) ],
       λ either. elim either [
         | inl before ↦ (was.marks v v_in).1 (inl before)
-        | inr b ↦ elim (cases_eq b.0 i) [
-          | inl here ↦ absurd (b.2.bends (subst (λ k. at m.next (at m.next (reverse_of (at walk k))) ≡ at walk (suc k)) (sym here) straight))
-          | inr other ↦ (was.marks v v_in).1 (inr (b.0, let low = b.1 in omega (arith, low, other), b.2))
+        | inr b ↦ elim (cases_eq b.0 j) [
+          | inl here ↦
+              absurd (b.2.bends (ap (λ k. at m.next (at m.next (reverse_of (at walk k)))) here ∙ straight ∙ ap (at walk) (sym is ∙ ap suc (sym here))))
+          | inr other ↦ (was.marks v v_in).1 (inr (b.0, earlier b.0 b.1 other, b.2))
         ]
       ],
     );
   }
 
   -- it bends there
-  pub bends_more : (w : ℕ) → w ≡ tail_of m.web.ends (at walk (suc i)) → w < m.web.nodes → at m.next (at m.next (reverse_of (at walk i))) ≢ at walk (suc i) →
-      MarksBends m walk (suc (suc i)) old (set marks w true)
+  pub bends_more : (w : ℕ) → w ≡ tail_of m.web.ends (at walk i) → w < m.web.nodes → at m.next (at m.next (reverse_of (at walk j))) ≢ at walk i →
+      MarksBends m walk (i + 1) old (set marks w true)
   bends_more w w_is w_in bends =
       let long = was.long in
       record {
         long = length-set marks w true ∙ long;
         marks = λ v v_in. elim (is_marked-set marks w v (omega (arith, w_in, long))) [
-          | inl here ↦ (λ is. inr (i, omega arith, record { goes_on = i_in; there = sym w_is ∙ sym here.0; bends = bends }), λ either. here.1)
+          | inl here ↦
+              let own : BendsAt m walk v j = record {
+                goes_on = omega (arith, is, i_in);
+                there = ap (λ k. tail_of m.web.ends (at walk k)) is ∙ sym w_is ∙ sym here.0;
+                bends = λ same. bends (same ∙ ap (at walk) is);
+              } in
+              (λ marked. inr (j, (omega (arith, is)), own), λ either. here.1)
           | inr there ↦ (
-            λ is. elim ((was.marks v v_in).0 (sym there.1 ∙ is)) [ inl before ↦ inl before | inr b ↦ inr (b.0, let low = b.1 in omega (arith, low), b.2) ],
+            λ marked. elim ((was.marks v v_in).0 (sym there.1 ∙ marked)) [ inl before ↦ inl before | inr b ↦ inr (b.0, (let low = b.1 in omega (arith, low)), b.2) ],
             λ either. there.1 ∙ elim either [
               | inl before ↦ (was.marks v v_in).1 (inl before)
-              | inr b ↦ elim (cases_eq b.0 i) [
-                | inl last ↦ absurd (there.0 (sym b.2.there ∙ ap (λ k. tail_of m.web.ends (at walk (suc k))) last ∙ sym w_is))
-                | inr other ↦ (was.marks v v_in).1 (inr (b.0, let low = b.1 in omega (arith, low, other), b.2))
+              | inr b ↦ elim (cases_eq b.0 j) [
+                | inl last ↦ absurd (there.0 (sym b.2.there ∙ ap (λ k. tail_of m.web.ends (at walk (suc k))) last ∙ ap (λ k. tail_of m.web.ends (at walk k)) is ∙ sym w_is))
+                | inr other ↦ (was.marks v v_in).1 (inr (b.0, earlier b.0 b.1 other, b.2))
               ]
             ],
           )
         ];
       }
+
+-- all places are looked at
+pub bends_done : (m : ListedMap) (walk : List ℕ) (n : ℕ) (old new : List Bool) → length walk ≤ n → MarksBends m walk n old new → MarksBends m walk (length walk) old new
+bends_done m walk n old new past was = record {
+  long = was.long;
+  marks = λ v v_in. (
+    λ marked. elim ((was.marks v v_in).0 marked) [ inl before ↦ inl before | inr b ↦ inr (b.0, b.2.goes_on, b.2) ],
+    λ either. (was.marks v v_in).1 (elim either [ inl before ↦ inl before | inr b ↦ inr (b.0, (let low = b.1 in omega (arith, low, past)), b.2) ]),
+  );
+}
 
 pub no_bends : (m : ListedMap) (walks : List (List ℕ)) → AreBends m walks 0 (replicate m.web.nodes false)
 no_bends m walks = record {
