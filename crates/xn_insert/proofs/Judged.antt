@@ -65,11 +65,13 @@ module _ (g : Graph) (m : ListedMap) (walks : List (List ℕ)) (is_graph : IsGra
       let v = tail_of m.web.ends (at (walk_of walks e) (suc i)) in
       let high = (lead e e_in).1 i i_in in
       let v_in : v < m.web.nodes =
-      tail_in m.web.nodes m.web.ends listed.is_map.ends_in (at (walk_of walks e) (suc i)) (walk_in m.web.ends _ _ (walk_of walks e) (lead e e_in).0 (suc i) i_in) in
-      (high, elim (cases_eq (at m.next (at m.next (reverse_of (at (walk_of walks e) i)))) (at (walk_of walks e) (suc i))) [
-        | inl same ↦ same
-        | inr bends ↦ absurd ((turns.crossings v high v_in).1 (e, i, record { goes_on = i_in; there = refl; bends = bends }))
-      ]))
+      tail_in m.web.nodes m.web.ends listed.is_map.ends_in (at (walk_of walks e) (suc i)) (walk_in m.web.ends _ _ (walk_of walks e) (lead e e_in).0 (suc i) i_in) in (
+        high,
+        elim (cases_eq (at m.next (at m.next (reverse_of (at (walk_of walks e) i)))) (at (walk_of walks e) (suc i))) [
+          | inl same ↦ same
+          | inr bends ↦ absurd ((turns.crossings v high v_in).1 (e, i, record { goes_on = i_in; there = refl; bends = bends }))
+        ],
+      ))
 
   pub drawn : MeetsEuler m.web.nodes m.web.ends (at m.next) → IsDrawnLoosely g m walks
   drawn flat = record {

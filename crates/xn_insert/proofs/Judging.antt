@@ -59,8 +59,7 @@ module _ (g : Graph) (m : ListedMap) (walks : List (List ℕ)) (is : HasWalks g 
   pub not_once : (s : ℕ) → s < length times → IsFirstFailing 0 (λ t. at times t ≡ 1) s → (s < length m.web.ends) × IsFirstFailing 0 (IsWalkedOnce walks) s
   not_once s s_in first =
       let long = counts.long in
-      let low : s < length m.web.ends = omega (arith, s_in, long) in
-      (
+      let low : s < length m.web.ends = omega (arith, s_in, long) in (
         low,
         record {
           from = omega arith;
@@ -203,13 +202,16 @@ bends_of_one m walks e walk old new walk_is was more = record {
 
 module _ (g : Graph) (m : ListedMap) (walks : List (List ℕ)) (size : length walks ≡ length g.ends) (marks : List Bool) (bends : AreBends m walks (length walks) marks) where
   pub crossing_from : (v : ℕ) → v < m.web.nodes → IsUnmarkedFour m.web.ends marks v → IsCrossing m walks v
-  crossing_from v v_in is = (is.0, λ b. elim (cases_lt b.0 (length walks)) [
-    | inl low ↦ both_ways _ is.1 ((bends.bent v v_in).1 (b.0, b.1, low, b.2))
-    | inr past ↦
-        let none = ap length (past_all walks b.0 (omega (arith, past))) in
-        let some = b.2.goes_on in
-        omega (arith, none, some)
-  ])
+  crossing_from v v_in is = (
+    is.0,
+    λ b. elim (cases_lt b.0 (length walks)) [
+      | inl low ↦ both_ways _ is.1 ((bends.bent v v_in).1 (b.0, b.1, low, b.2))
+      | inr past ↦
+          let none = ap length (past_all walks b.0 (omega (arith, past))) in
+          let some = b.2.goes_on in
+          omega (arith, none, some)
+    ],
+  )
     where
       past_all : (ws : List (List ℕ)) (x : ℕ) → length ws ≤ x → walk_of ws x ≡ []
       past_all [] x past = refl
@@ -217,10 +219,13 @@ module _ (g : Graph) (m : ListedMap) (walks : List (List ℕ)) (size : length wa
       past_all (w ∷ ws) (suc x) past = past_all ws x (omega (arith, past))
 
   pub crossing_to : (v : ℕ) → v < m.web.nodes → IsCrossing m walks v → IsUnmarkedFour m.web.ends marks v
-  crossing_to v v_in is = (is.0, elim (cases_Bool (is_marked marks v)) [
-    | inr out ↦ out
-    | inl marked ↦ let b = (bends.bent v v_in).0 marked in absurd (is.1 (b.0, b.1, b.3))
-  ])
+  crossing_to v v_in is = (
+    is.0,
+    elim (cases_Bool (is_marked marks v)) [
+      | inr out ↦ out
+      | inl marked ↦ let b = (bends.bent v v_in).0 marked in absurd (is.1 (b.0, b.1, b.3))
+    ],
+  )
 
   pub all_cross : WalksOnce g m walks → ((v : ℕ) → g.nodes ≤ v → v < m.web.nodes → IsUnmarkedFour m.web.ends marks v) → HasTurns g m walks
   all_cross once each = record { walked = once; crossings = λ v low high. crossing_from v high (each v low high) }

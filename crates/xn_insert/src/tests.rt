@@ -105,8 +105,14 @@ fn an_edge_with_a_kink(rt: HostRuntime) -> Result<(), Fail> {
         Ok(loose) => assert_eq!(rt; loose.crossings(), 1),
         Err(_) => Err("refused")?,
     }
-    assert_eq!(rt; flaw_of(kinked(alloc, &crosses, &[0, 4])?), Some(LooseFlaw::Walked(1)));
-    assert_eq!(rt; flaw_of(kinked(alloc, &touches, &[0, 2, 4])?), Some(LooseFlaw::Turn(2)));
+    assert_eq!(rt;
+        flaw_of(kinked(alloc, &crosses, &[0, 4])?),
+        Some(LooseFlaw::Walked(1))
+    );
+    assert_eq!(rt;
+        flaw_of(kinked(alloc, &touches, &[0, 2, 4])?),
+        Some(LooseFlaw::Turn(2))
+    );
     Ok(())
 }
 
