@@ -1,5 +1,5 @@
 -- Bounds of the simple drawings are bounds of all.
-use Rattle.std.proofs.Common.{◌≡◌, ℕ, subst, arith}
+use Rattle.std.proofs.Common.{subst, arith}
 use Rattle.xn_model.specs.Drawing.{HasDrawingWith}
 use Rattle.xn_model.specs.Graph.{edges_of}
 use Rattle.xn_track.proofs.Simplify.{loose_drawings_give_simple_ones}
