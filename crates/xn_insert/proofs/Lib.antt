@@ -11,7 +11,7 @@ pub mod Grown
 pub mod GrownMore
 pub mod Joined
 pub mod Judged
-pub mod Judging
+pub mod JudgedSteps
 pub mod Nearest
 pub mod Rounds
 pub mod Started

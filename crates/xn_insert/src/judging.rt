@@ -113,7 +113,8 @@ fn times_of(alloc: Global, segments: u32, darts: &[u32]) -> Result<Vec<u32>, All
     let mut times = vec![in alloc; 0; segments as usize]?;
     for d in darts {
         let s = (*d / 2) as usize;
-        times[s] = times[s].saturating_add(1).min(2);
+        let before: u32 = times[s];
+        times[s] = before.saturating_add(1).min(2);
     }
     Ok(times)
 }
