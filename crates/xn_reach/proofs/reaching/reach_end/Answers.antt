@@ -2,7 +2,7 @@ use Rattle.std.proofs.Common.{sym, subst}
 use Rattle.xn_model.specs.Graph.{EndsIn, Graph, HasNoLoop}
 use Rattle.xn_components.specs.Listing.{IsFlatMapOf}
 use Rattle.xn_components.proofs.LaidBelow.{no_loop_listed}
-use Rattle.xn_planar.specs.Planar.{HasNoFlatMap}
+use Rattle.xn_planar.specs.Planar.{HasNoFlatMap, IsPlanarity}
 use Rattle.xn_extend.proofs.Ending.{apart_from_grows}
 use Rattle.xn_reach.proofs.Reached.{end_of, no_end}
 use Rattle.xn_reach.proofs.reaching.reach_end.Goals as goal
@@ -21,13 +21,13 @@ pub returns-in-Flat : goal.returns-in-Flat
 returns-in-Flat c =
     let web = c.args.web.now in
     let list = c.args.list.now in
-    let is = c.in-Flat.ensures in
-    end_of web list c.in_ok-listed.ensures.limited.ends_in c.requires.no_loop c.requires.grows c.in-Flat.field-0
-    (subst (λ w. IsFlatMapOf w c.in-Flat.field-0) c.in_ok-listed.ensures.web is)
+    let is = subst (IsPlanarity c.in_ok-listed.listed) c.in-Flat.is c.in_ok-map.ensures in
+    end_of web list c.in_ok-listed.ensures.limited.ends_in c.requires.no_loop c.requires.grows c.in-Flat.map
+    (subst (λ w. IsFlatMapOf w c.in-Flat.map) c.in_ok-listed.ensures.web is)
 
-pub returns-in-Not : goal.returns-in-Not
-returns-in-Not c =
+pub returns : goal.returns
+returns c =
     let web = c.args.web.now in
     let list = c.args.list.now in
-    no_end web list c.in_ok-listed.ensures.limited.ends_in c.requires.no_loop c.requires.grows
-    (subst HasNoFlatMap c.in_ok-listed.ensures.web c.in-Not.ensures.none)
+    let is = subst (IsPlanarity c.in_ok-listed.listed) c.in-Not.is c.in_ok-map.ensures in
+    no_end web list c.in_ok-listed.ensures.limited.ends_in c.requires.no_loop c.requires.grows (subst HasNoFlatMap c.in_ok-listed.ensures.web is.none)
