@@ -1,8 +1,11 @@
 #!/usr/bin/env python3
-"""Writes K5 with segments that hang at node 0, and an answer by insertions: python3 tools/hanging_answer.py COUNT GRAPH ANSWER
+"""Writes K5 with segments that hang at node 0, and an answer by insertions.
 
-The row lists the hanging segments first, and then those of K5. Insertions in this order are stuck only at the last segment, in
-any of their ways, so a search of them takes a time that grows with the factorial of COUNT. A checker must accept 1 1.
+    python3 tools/hanging_answer.py COUNT GRAPH ANSWER
+
+The row lists the hanging segments first, and then those of K5. Insertions in this order are stuck only at the last
+segment, whichever way they go, so a search of them takes a time that grows with the factorial of COUNT. A checker must
+accept 1 1.
 """
 import pathlib
 import sys
