@@ -10,6 +10,17 @@ use xn_graph::Graph;
 use xn_kinds::{Row, Var};
 use xn_tree::Given;
 
+/// How far a search is.
+#[derive(Clone, Copy, Debug, PartialEq, Eq)]
+pub struct Progress {
+    /// The round, which is to prove that every drawing has at least so many crossings.
+    pub round: u32,
+    /// How many nodes were opened so far, those left out that took no decision.
+    pub opened: u64,
+    /// The crossings of the best drawing that is known.
+    pub best: u32,
+}
+
 /// What looks for a row that a point breaks.
 ///
 /// A point gives each variable that it names a number, from 0 to 1 where it comes from a linear program; one
@@ -28,4 +39,7 @@ pub trait Cutter: Drop {
         requires state { IsState graph.now (state_of given.now) }
         requires point { IsPoint graph.now point.now }
         ensures { IfOk result (λ found. IfSome found (RowHolds graph.now)) };
+
+    /// Hears how far the search is that will ask it. One that leaves this out doesn't listen.
+    fn hear(&mut self, _progress: Progress) {}
 }

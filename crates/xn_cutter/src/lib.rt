@@ -5,4 +5,4 @@ mod cutter;
 #[cfg(test)]
 mod tests;
 
-pub use cutter::Cutter;
+pub use cutter::{Cutter, Progress};

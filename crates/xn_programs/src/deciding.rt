@@ -13,7 +13,7 @@ ghost use Rattle.xn_programs.specs.Turns.{IsGrown};
 use crate::hints::Hints;
 use crate::turns::{keep, turns};
 use std::alloc::{AllocError, Global};
-use xn_cutter::Cutter;
+use xn_cutter::{Cutter, Progress};
 use xn_graph::Graph;
 use xn_kinds::{Node, Row};
 use xn_plant::{Planes, Planted, plant};
@@ -35,6 +35,8 @@ pub struct ByPrograms<P> {
     /// a value from 1/2 on below 1.
     pub cutters: Vec<Box<dyn Cutter>>,
     hints: Hints,
+    // How many states were decided.
+    decided: u64,
 }
 
 impl<P: Planes> ByPrograms<P> {
@@ -44,7 +46,21 @@ impl<P: Planes> ByPrograms<P> {
             planes,
             cutters,
             hints: Hints::new(alloc),
+            decided: 0,
         }
+    }
+
+    // Tells the cutters how far the search is, where one more state comes.
+    fn tell(&mut self, claim: &Claim) {
+        let progress = Progress {
+            round: claim.crossings,
+            opened: self.decided,
+            best: claim.best,
+        };
+        for cutter in self.cutters.iter_mut() {
+            tell_one(cutter, progress);
+        }
+        self.decided = self.decided.saturating_add(1);
     }
 
     // The node that opens a state whose own row is given: a leaf, the open pair of greatest value at the
@@ -159,6 +175,7 @@ impl<P: Planes> Decider for ByPrograms<P> {
         given: &Given,
         rows: &mut Vec<Row>,
     ) -> Result<Decision, AllocError> {
+        self.tell(claim);
         let pairs = claim.graph.pairs(alloc)?;
         self.hints
             .begin(alloc, claim, given, pairs.as_slice(), rows.as_slice())?;
@@ -179,6 +196,11 @@ impl<P: Planes> Decider for ByPrograms<P> {
         let decision = self.planted(alloc, claim, given, pairs.as_slice(), rows)?;
         Ok(decision)
     }
+}
+
+// Tells a cutter how far the search is.
+fn tell_one(cutter: &mut Box<dyn Cutter>, progress: Progress) {
+    cutter.hear(progress)
 }
 
 // The pair, where it is an open one.

@@ -17,6 +17,8 @@ pub struct Claim<'a> {
     pub graph: &'a Graph,
     /// The number of crossings.
     pub crossings: u32,
+    /// The crossings of the best drawing that is known.
+    pub best: u32,
 }
 
 /// A drawing, and how many crossings it has.

@@ -1,10 +1,11 @@
-// The search of a graph by planting alone.
+// The search of a graph.
 ghost use Rattle.std.specs.Prelude.{◌≡◌, ◌≤◌, IfOk};
 ghost use Rattle.xn_model.specs.Drawing.{HasDrawingWith, IsListedDrawing, order_of};
 ghost use Rattle.xn_model.specs.Orders.{crossing_count};
 ghost use Rattle.xn_search.specs.Solved.{IsFree, IsSolved};
 
-use crate::branching::{ByPlanting, counted};
+use crate::branching::counted;
+use crate::decisions::Decider;
 use crate::solved::{Solved, solve_from};
 use std::alloc::{AllocError, Global};
 use xn_graph::Graph;
@@ -15,19 +16,20 @@ use xn_sound::laws::rows;
 use xn_tree::Given;
 
 /// A drawing of the graph, and a proof that no drawing has fewer crossings: they differ only where the whole budget
-/// is spent and is below the node limit. A unit of the budget is a state that is opened. It fails only for want of
-/// memory.
-pub fn solve<P: Planes>(
+/// is spent and is below the node limit. A unit of the budget is a state that is opened. A first drawing comes of what
+/// tests the webs. It fails only for want of memory.
+pub fn solve<P: Planes, D: Decider>(
     alloc: Global,
     graph: &Graph,
     budget: u64,
-    decider: &mut ByPlanting<P>,
+    planes: &mut P,
+    decider: &mut D,
 ) -> Result<Solved, AllocError>
     requires { budget ≤ 200000 }
     ensures solved { IfOk result (IsSolved graph.now budget) }
     ensures flat { HasDrawingWith graph.now 0 → IfOk result (IsFree graph.now) }
 {
-    let drawing = first_drawing(alloc, graph, &mut decider.planes)?;
+    let drawing = first_drawing(alloc, graph, planes)?;
     let first = counted(alloc, graph, drawing)?;
     let solved = solve_from(alloc, graph, first, budget, decider)?;
     Ok(solved)

@@ -86,7 +86,7 @@ fn found(alloc: Global, budget: u64) -> Result<(u32, u64, usize, usize), Fail>
 {
     let graph = Graph::make(5, Vec::from_slice(alloc, &ENDS)?)?;
     let mut decider = ByPlanting { planes: Known };
-    let solved = solve(alloc, &graph, budget, &mut decider)?;
+    let solved = solve(alloc, &graph, budget, &mut Known, &mut decider)?;
     Ok((
         solved.lower,
         solved.spent,

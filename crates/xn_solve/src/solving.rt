@@ -1,23 +1,35 @@
 // The search of a graph.
 ghost use Rattle.std.specs.Prelude.{◌≤◌, IfOk};
 ghost use Rattle.xn_fewer.specs.Flat.{HasFlat};
+ghost use Rattle.xn_model.specs.Drawing.{HasDrawingWith};
 ghost use Rattle.xn_search.specs.Solved.{IsFree, IsSolved};
 ghost use Rattle.xn_solve.specs.Answers.{Bounds, DecidesFromLimit, HasWellFormedAnswers};
 
 use crate::maps::Maps;
 use std::alloc::{AllocError, Global};
+use std::mem;
 use xn_answers::laws::{answers, flat_graphs};
+use xn_cutter::Cutter;
 use xn_graph::Graph;
-use xn_search::{ByPlanting, Solved};
+use xn_programs::ByPrograms;
+use xn_search::Solved;
 use xn_sound::laws::accepted_proofs;
 
-/// A drawing of the graph, and a proof that no drawing has fewer crossings (after the branching by planarised graphs of
-/// Buchheim and others, 2008).
+/// A drawing of the graph, and a proof that no drawing has fewer crossings (after the branch and cut of Buchheim and
+/// others, 2008).
 ///
 /// They differ only where the whole budget is spent and is below the node limit: with a budget of at least that both
 /// show the crossing number. A unit of the budget is a state that is opened; a graph that can be drawn without crossings
 /// takes none. It fails only for want of memory.
-pub fn solve(alloc: Global, graph: &Graph, budget: u64) -> Result<Solved, AllocError>
+///
+/// All this holds for every list of cutters, the empty one too. They are lent: after the call the list has them again,
+/// also where memory is wanting.
+pub fn solve(
+    alloc: Global,
+    graph: &Graph,
+    budget: u64,
+    cutters: &mut Vec<Box<dyn Cutter>>,
+) -> Result<Solved, AllocError>
     requires { budget ≤ 200000 }
     ensures solved { IfOk result (IsSolved graph.now budget) }
     ensures bounds { IfOk result (Bounds graph.now) }
@@ -29,7 +41,24 @@ pub fn solve(alloc: Global, graph: &Graph, budget: u64) -> Result<Solved, AllocE
     answers();
     flat_graphs();
     let _nodes = graph.nodes();
-    let mut decider = ByPlanting { planes: Maps };
-    let solved = xn_search::solve(alloc, graph, budget, &mut decider)?;
+    let solved = with_programs(alloc, graph, budget, cutters)?;
     Ok(solved)
+}
+
+// The search by linear programs, which has the cutters until it ends.
+fn with_programs(
+    alloc: Global,
+    graph: &Graph,
+    budget: u64,
+    cutters: &mut Vec<Box<dyn Cutter>>,
+) -> Result<Solved, AllocError>
+    requires { budget ≤ 200000 }
+    ensures solved { IfOk result (IsSolved graph.now budget) }
+    ensures flat { HasDrawingWith graph.now 0 → IfOk result (IsFree graph.now) }
+{
+    let lent = mem::replace(cutters, Vec::new(alloc));
+    let mut decider = ByPrograms::new(alloc, Maps, lent);
+    let searched = xn_search::solve(alloc, graph, budget, &mut Maps, &mut decider);
+    mem::swap(cutters, &mut decider.cutters);
+    searched
 }

@@ -1,4 +1,5 @@
-//! The numbers of nodes of round 1, budgets, later rounds, and a round that finds a better drawing.
+//! Searches by planting alone: the numbers of nodes of round 1, budgets, later rounds, and a round that finds a better
+//! drawing.
 ghost use Rattle.std.specs.Prelude.{◌≤◌};
 
 use super::*;
@@ -11,6 +12,8 @@ use xn_list::Sequence;
 use xn_map::Map;
 use xn_plant::{Planarity, Planes};
 use xn_search::ByPlanting;
+
+mod cutting;
 
 /// The edges of K4.
 const K4: [(u32, u32); 6] = [(0, 1), (0, 2), (0, 3), (1, 2), (1, 3), (2, 3)];
@@ -144,63 +147,59 @@ fn pentagon_of_k5(alloc: Global) -> Result<Drawing, AllocError> {
     })
 }
 
-/// What planting alone proves of a graph within the usual budget: the two bounds, and what was spent.
-fn planted(alloc: Global, nodes: u32, ends: &[(u32, u32)]) -> Result<(u32, u32, u64), Fail> {
-    let graph = Graph::make(nodes, Vec::from_slice(alloc, ends)?)?;
-    let mut decider = ByPlanting { planes: Pentagon };
-    let solved = xn_search::solve(alloc, &graph, 10_000, &mut decider)?;
-    let answer = answer_of(alloc, &graph, 0, 10_000, solved)?;
-    Ok((answer.lower, answer.upper, answer.spent))
-}
-
-/// What is proved of a graph within a budget: the two bounds, and what was spent.
-fn found(
+/// What planting alone proves of a graph within a budget: the two bounds, and what was spent.
+fn planted<P: Planes>(
     alloc: Global,
     nodes: u32,
     ends: &[(u32, u32)],
     budget: u64,
+    planes: &mut P,
 ) -> Result<(u32, u32, u64), Fail>
     requires { budget ≤ 200000 }
 {
     let graph = Graph::make(nodes, Vec::from_slice(alloc, ends)?)?;
-    let solved = solve(alloc, &graph, budget)?;
+    let mut decider = ByPlanting { planes: Maps };
+    let solved = xn_search::solve(alloc, &graph, budget, planes, &mut decider)?;
     let answer = answer_of(alloc, &graph, 0, budget, solved)?;
     Ok((answer.lower, answer.upper, answer.spent))
 }
 
 #[test]
 fn a_flat_graph_takes_no_budget(rt: HostRuntime) -> Result<(), Fail> {
-    assert_eq!(rt; found(rt.alloc(), 4, &K4, 0)?, (0, 0, 0));
+    assert_eq!(rt; planted(rt.alloc(), 4, &K4, 0, &mut Maps)?, (0, 0, 0));
     Ok(())
 }
 
 #[test]
 fn k5_has_one_crossing(rt: HostRuntime) -> Result<(), Fail> {
-    assert_eq!(rt; found(rt.alloc(), 5, &K5, 10_000)?, (1, 1, 31));
-    assert_eq!(rt; found(rt.alloc(), 5, &K5, 31)?, (1, 1, 31));
-    assert_eq!(rt; found(rt.alloc(), 5, &K5, 0)?, (0, 1, 0));
+    assert_eq!(rt; planted(rt.alloc(), 5, &K5, 10_000, &mut Maps)?, (1, 1, 31));
+    assert_eq!(rt; planted(rt.alloc(), 5, &K5, 31, &mut Maps)?, (1, 1, 31));
+    assert_eq!(rt; planted(rt.alloc(), 5, &K5, 0, &mut Maps)?, (0, 1, 0));
     Ok(())
 }
 
 #[test]
 fn k33_has_one_crossing(rt: HostRuntime) -> Result<(), Fail> {
-    assert_eq!(rt; found(rt.alloc(), 6, &K33, 37)?, (1, 1, 37));
-    assert_eq!(rt; found(rt.alloc(), 6, &K33, 36)?, (0, 1, 36));
+    assert_eq!(rt; planted(rt.alloc(), 6, &K33, 37, &mut Maps)?, (1, 1, 37));
+    assert_eq!(rt; planted(rt.alloc(), 6, &K33, 36, &mut Maps)?, (0, 1, 36));
     Ok(())
 }
 
 #[test]
 fn a_round_finds_a_better_drawing(rt: HostRuntime) -> Result<(), Fail> {
     // Round 1 has 31 nodes; round 2 opens fifteen pairs and a leaf, and finds a drawing where the last pair crosses.
-    assert_eq!(rt; planted(rt.alloc(), 5, &K5)?, (1, 1, 48));
+    assert_eq!(rt;
+        planted(rt.alloc(), 5, &K5, 10_000, &mut Pentagon)?,
+        (1, 1, 48)
+    );
     Ok(())
 }
 
 #[test]
 fn later_rounds_plant_crossings_and_place_edges(rt: HostRuntime) -> Result<(), Fail> {
-    let (lower, upper, _) = planted(rt.alloc(), 7, &K34)?;
+    let (lower, upper, _) = planted(rt.alloc(), 7, &K34, 10_000, &mut Pentagon)?;
     assert_eq!(rt; (lower, upper), (2, 2));
-    let (lower, upper, _) = planted(rt.alloc(), 6, &K6)?;
+    let (lower, upper, _) = planted(rt.alloc(), 6, &K6, 10_000, &mut Pentagon)?;
     assert_eq!(rt; (lower, upper), (3, 3));
     Ok(())
 }
