@@ -1,9 +1,10 @@
 ghost use Rattle.std.specs.Prelude.{◌≡◌, IfNone, IfOk, IfSome};
 ghost use Rattle.xn_kinds.specs.Row.{RowHolds};
 ghost use Rattle.xn_kinds.specs.State.{IsState};
+ghost use Rattle.xn_kura.specs.Flaws.{HasAKind};
 ghost use Rattle.xn_tree.specs.Given.{state_of};
 ghost use Rattle.xn_cutter.specs.Point.{IsPoint};
-ghost use Rattle.xn_cut.specs.Cuts.{CrossesPlanted, IsCut, IsOfAKind, LieFlat};
+ghost use Rattle.xn_cut.specs.Cuts.{CrossesPlanted, IsCut, LieFlat};
 ghost use Rattle.xn_cut.specs.Planted.{is_half, is_one, is_planted, takes};
 
 use crate::literals::Literals;
@@ -63,7 +64,7 @@ impl Cutter for OnesCutter {
         requires state { IsState graph.now (state_of given.now) }
         requires point { IsPoint graph.now point.now }
         ensures holds { IfOk result (λ cut. IfSome cut (RowHolds graph.now)) }
-        ensures kind { IfOk result (λ cut. IfSome cut IsOfAKind) }
+        ensures kind { IfOk result (λ cut. IfSome cut (λ row. HasAKind row.evidence)) }
         ensures planted { IfOk result (λ cut. IfSome cut (CrossesPlanted (is_planted is_one point.now))) }
         ensures none { IfOk result (λ cut. IfNone cut (LieFlat graph.now (is_planted is_one point.now))) }
     {
@@ -86,7 +87,7 @@ impl Cutter for RoundCutter {
         requires state { IsState graph.now (state_of given.now) }
         requires point { IsPoint graph.now point.now }
         ensures holds { IfOk result (λ cut. IfSome cut (RowHolds graph.now)) }
-        ensures kind { IfOk result (λ cut. IfSome cut IsOfAKind) }
+        ensures kind { IfOk result (λ cut. IfSome cut (λ row. HasAKind row.evidence)) }
         ensures planted { IfOk result (λ cut. IfSome cut (CrossesPlanted (is_planted is_half point.now))) }
         ensures none { IfOk result (λ cut. IfNone cut (LieFlat graph.now (is_planted is_half point.now))) }
     {
@@ -109,7 +110,7 @@ impl Cutter for OrderCutter {
         requires state { IsState graph.now (state_of given.now) }
         requires point { IsPoint graph.now point.now }
         ensures holds { IfOk result (λ cut. IfSome cut (RowHolds graph.now)) }
-        ensures kind { IfOk result (λ cut. IfSome cut IsOfAKind) }
+        ensures kind { IfOk result (λ cut. IfSome cut (λ row. HasAKind row.evidence)) }
         ensures planted { IfOk result (λ cut. IfSome cut (CrossesPlanted (is_planted is_half point.now))) }
         ensures none { IfOk result (λ cut. IfNone cut (LieFlat graph.now (is_planted is_half point.now))) }
     {
