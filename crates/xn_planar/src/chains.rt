@@ -30,8 +30,8 @@ pub fn chains_of(alloc: Global, web: &Web) -> Result<Vec<u32>, AllocError> {
     Ok(chains)
 }
 
-// Joins the chains of two segments, under the lesser of their roots.
-fn join(chains: &mut [u32], s: u32, t: u32)
+/// Joins the chains of two segments, under the lesser of their roots.
+pub fn join(chains: &mut [u32], s: u32, t: u32)
     ensures { length chains.new ≡ length chains.old }
 {
     let (a, b) = (root(chains, s), root(chains, t));
@@ -40,8 +40,8 @@ fn join(chains: &mut [u32], s: u32, t: u32)
     write(chains, a.max(b), a.min(b));
 }
 
-// The root to which the parents lead.
-fn root(chains: &[u32], s: u32) -> u32 {
+/// The root to which the parents lead.
+pub fn root(chains: &[u32], s: u32) -> u32 {
     let mut t = s;
     for _ in 0..chains.len() {
         let up = read(chains, t);

@@ -4,7 +4,7 @@ ghost use Rattle.xn_model.specs.Graph.{HasNoLoop};
 ghost use Rattle.xn_genus.specs.Part.{AreSegmentsApart};
 ghost use Rattle.xn_planar.specs.Named.{RiseBelow};
 
-use crate::chains::chains_of;
+use crate::chains::{chains_of, join, root};
 use std::alloc::{AllocError, Global};
 use xn_blocks::blocks;
 use xn_dmp::{Attempt, Jam, try_embed};
@@ -12,7 +12,8 @@ use xn_extend::listed_web;
 use xn_graph::Web;
 
 /// Segments at which embedding by paths gets stuck, where no chain can be left out. It begins with the block of the
-/// jam, and leaves out many chains before few, then one by one. The list rises.
+/// jam, and leaves out many segments before few, then one by one: first those outside a spanning forest, and then
+/// chains. The list rises.
 ///
 /// The contract says only that the segments are different: what they show is tested later.
 pub fn core_of(alloc: Global, web: &Web, jam: &Jam) -> Result<Vec<u32>, AllocError>
@@ -23,7 +24,16 @@ pub fn core_of(alloc: Global, web: &Web, jam: &Jam) -> Result<Vec<u32>, AllocErr
     let size = web.segments();
     let all = (0..size).collect::<Vec<u32>>(alloc)?;
     let mut keep = block_of(alloc, web, &all, jam, size)?;
+    let forest = forest_of(alloc, web, &keep)?;
     let mut many = size / 2;
+    for _ in 0..32 {
+        if many == 0 {
+            break;
+        }
+        keep = sparse(alloc, web, keep, &forest, many)?;
+        many /= 2;
+    }
+    many = size / 2;
     for _ in 0..32 {
         if many == 0 {
             break;
@@ -32,6 +42,85 @@ pub fn core_of(alloc: Global, web: &Web, jam: &Jam) -> Result<Vec<u32>, AllocErr
         many /= 2;
     }
     marked(alloc, web, &keep)
+}
+
+// Marks of the kept segments that join two parts of those before them: a spanning forest.
+fn forest_of(alloc: Global, web: &Web, keep: &[bool]) -> Result<Vec<bool>, AllocError> {
+    let mut parts = (0..web.nodes()).collect::<Vec<u32>>(alloc)?;
+    let mut forest = vec![in alloc; false; web.segments() as usize]?;
+    for s in 0..web.segments() {
+        let (u, v) = web.end(s);
+        if is_marked(keep, s) && root(&parts, u) != root(&parts, v) {
+            join(parts.as_mut_slice(), u, v);
+            mark(forest.as_mut_slice(), s);
+        }
+    }
+    Ok(forest)
+}
+
+// Leaves out each run of this many segments outside a forest without which embedding still gets stuck.
+fn sparse(
+    alloc: Global,
+    web: &Web,
+    keep: Vec<bool>,
+    forest: &[bool],
+    many: u32,
+) -> Result<Vec<bool>, AllocError>
+    requires { HasNoLoop web.now.ends }
+{
+    let mut keep = keep;
+    let mut from = 0;
+    for _ in 0..2 * web.segments() {
+        let end = spare_end(web, &keep, forest, from, many);
+        if end == from {
+            break;
+        }
+        let left = without_spare(alloc, web, &keep, forest, from, end)?;
+        match stuck_block(alloc, web, &left)? {
+            Some(block) => keep = block,
+            None => from = end,
+        }
+    }
+    Ok(keep)
+}
+
+// The number behind a run of this many kept segments outside the forest, or where it would begin, if there are none.
+fn spare_end(web: &Web, keep: &[bool], forest: &[bool], from: u32, many: u32) -> u32 {
+    let mut end = from;
+    let mut met = 0;
+    for s in from..web.segments() {
+        if is_marked(keep, s) && !is_marked(forest, s) {
+            if met >= many {
+                return end;
+            }
+            met += 1;
+            end = s.saturating_add(1);
+        }
+    }
+    end
+}
+
+// Marks of the kept segments but for those outside the forest from one number on and below another.
+fn without_spare(
+    alloc: Global,
+    web: &Web,
+    keep: &[bool],
+    forest: &[bool],
+    from: u32,
+    end: u32,
+) -> Result<Vec<bool>, AllocError> {
+    let mut left = vec![in alloc; false; web.segments() as usize]?;
+    for s in 0..web.segments() {
+        if is_marked(keep, s) && (is_marked(forest, s) || s < from || end <= s) {
+            mark(left.as_mut_slice(), s);
+        }
+    }
+    Ok(left)
+}
+
+// Whether a place is marked.
+fn is_marked(marks: &[bool], i: u32) -> bool {
+    (i as usize) < marks.len() && marks[i as usize]
 }
 
 // Leaves out each run of this many chains without which embedding still gets stuck.
