@@ -3,9 +3,16 @@ pub mod Changed
 pub mod Edges
 pub mod Kept
 pub mod Least
+pub mod Leading
 pub mod Neighbours
+pub mod Ones
+pub mod PairSums
 pub mod Pairs
 pub mod Paths
+pub mod Slots
 pub mod Split
 pub mod Table
+pub mod Taking
+pub mod Three
+pub mod Turning
 pub mod Weights

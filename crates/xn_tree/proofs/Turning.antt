@@ -1,0 +1,114 @@
+-- More taken of one order, and what the rows of a leaf say of the orders.
+use Rattle.std.proofs.Common.{◌≡◌, ◌≢◌, ℕ, zero, suc, ◌+◌, ◌-◌, ◌*◌, ◌<◌, ◌≤◌, inl, inr, Bool, true, false, ◌&&◌, cond, eqb, List, [], ◌∷◌, length, take, get_or, refl, sym, subst, ap, ◌∙◌, arith, add-one}
+use Rattle.std.specs.Prelude.{ℤ, pos, ◌+ℤ◌, ◌-ℤ◌, All}
+use Rattle.std.proofs.lemmas.Bool.{and_parts, cases_Bool, cond-false, eq-eqb, eqb-true, le-ltb, lt-ltb}
+use Rattle.std.proofs.lemmas.Int.{ints}
+use Rattle.xn_model.specs.Graph.{Graph}
+use Rattle.xn_model.specs.Lists.{has, total}
+use Rattle.xn_kinds.specs.Bound.{IsLeastOver}
+use Rattle.xn_kinds.specs.Row.{Values, literal, orders_of}
+use Rattle.xn_kinds.specs.State.{State, InBox}
+use Rattle.xn_kinds.specs.declared.rows.Row.{Row}
+use Rattle.xn_tree.specs.Given.{pair_place}
+use Rattle.xn_tree.specs.Leaf.{IsRowOf, turns_along}
+use Rattle.xn_tree.specs.Least.{Weighs, order_given, with_before}
+use Rattle.xn_tree.specs.Scale.{OrdersKept, OrdersStand, Takes, TakesOff, account_of_orders, mapped, of_two, order_place, weight}
+use Rattle.xn_tree.proofs.Kept.{eqb-flip}
+use Rattle.xn_tree.proofs.Least.{before_variable, least_of_one}
+use Rattle.xn_tree.proofs.Neighbours.{turns-more}
+use Rattle.xn_tree.proofs.PairSums.{of_two_none}
+use Rattle.xn_tree.proofs.Table.{same_pair}
+use Rattle.xn_tree.proofs.Taking.{least_after, others_after, weighs_after}
+
+-- no two orders have the same place
+same_order : (n a b c e f h : ℕ) → b < n → c < n → f < n → h < n → order_place n a b c ≡ order_place n e f h → (a ≡ e) × (b ≡ f) × (c ≡ h)
+same_order n a b c e f h b_in c_in f_in h_in same =
+    let last = same_pair n (pair_place n a b) c (pair_place n e f) h c_in h_in same in
+    let first = same_pair n a b e f b_in f_in last.0 in
+    (first.0, first.1, last.1)
+
+not_both_ways : (e f h a b c : ℕ) → (eqb a e && (eqb b f && eqb c h)) ≡ false → (eqb e a && (eqb f b && eqb h c)) ≡ false
+not_both_ways e f h a b c other = rw (eqb-flip e a, eqb-flip f b, eqb-flip h c) other
+
+module _ (g : Graph) (s : State) (e f h : ℕ) (rises : f < h) (below : h < length g.ends) (two : ℕ × ℕ) (old new : OrdersKept)
+    (takes : Takes (order_given (s.placed e) f h) 0 (order_place (length g.ends) e f h) two (account_of_orders old) (account_of_orders new)) where
+  other_order : (a b c : ℕ) → b < c → c < length g.ends → (eqb a e && (eqb b f && eqb c h)) ≡ false →
+      order_place (length g.ends) a b c ≢ order_place (length g.ends) e f h
+  other_order a b c rise low other same =
+      let all = same_order (length g.ends) a b c e f h (omega (arith, rise, low)) low (omega (arith, rises, below)) below same in
+      let here : (eqb a e && (eqb b f && eqb c h)) ≡ true = rw (eq-eqb a e all.0, eq-eqb b f all.1, eq-eqb c h all.2) refl in
+      let clash = sym here ∙ other in
+      absurd (cc)
+
+  pub order_taken : TakesOff (OrdersStand g s) old new (λ v. of_two two (v.before e f h))
+  order_taken number stands =
+      let less : Values → ℕ = λ v. of_two two (v.before e f h) in
+      let is : (v : Values) → InBox s v → less v ≡ of_two two (v.before e f h) = λ v box. refl in
+      let here = stands.weigh e f h rises below in
+      record {
+        least = least_after s (order_given (s.placed e) f h) (λ v. v.before e f h) (λ v n. with_before v e f h n) (before_variable s e f h) 0
+            (order_place (length g.ends) e f h) two (account_of_orders old) (account_of_orders new) takes number less is stands.least here;
+        weigh = λ a b c rise low. elim (cases_Bool (eqb a e && (eqb b f && eqb c h))) [
+          | inl same ↦
+              let parts : (eqb a e ≡ true) × ((eqb b f && eqb c h) ≡ true) = and_parts _ _ same in
+              let more : (eqb b f ≡ true) × (eqb c h ≡ true) = and_parts _ _ parts.1 in
+              let Here : ℕ → ℕ → ℕ → Type 0 = λ p q t. Weighs s (order_given (s.placed p) q t) (λ v. v.before p q t) (λ v n. with_before v p q t n)
+                  (λ v. number v -ℤ pos (less v)) (weight 0 (mapped new.entries (order_place (length g.ends) p q t))) in
+              let own : Here e f h = weighs_after s (order_given (s.placed e) f h) (λ v. v.before e f h) (λ v n. with_before v e f h n) (before_variable s e f h) 0
+                  (order_place (length g.ends) e f h) two (account_of_orders old) (account_of_orders new) takes number less is here in
+              subst (λ (p : ℕ). Here p b c) (sym (eqb-true a e parts.0)) (subst (λ (q : ℕ). Here e q c) (sym (eqb-true b f more.0))
+              (subst (λ (t : ℕ). Here e f t) (sym (eqb-true c h more.1)) own))
+          | inr other ↦
+              others_after s (order_given (s.placed e) f h) (λ v. v.before e f h) (λ v n. with_before v e f h n) (before_variable s e f h) 0
+              (order_place (length g.ends) e f h) two (account_of_orders old) (account_of_orders new) takes number less is
+              (order_given (s.placed a) b c) (λ v. v.before a b c) (λ v n. with_before v a b c n) (order_place (length g.ends) a b c) (other_order a b c rise low other)
+              (λ v n. ap (of_two two) (cond-false _ _ _ (not_both_ways e f h a b c other)))
+              (stands.weigh a b c rise low)
+        ];
+      }
+
+-- ---- two neighbours in a list
+
+ahead : (m x : ℕ) → of_two (m, 0) x ≡ m * (1 - x)
+ahead m zero = omega arith
+ahead m (suc x) = let none : 1 - suc x ≡ 0 = omega arith in let scaled = ap (λ k. m * k) none in omega (arith, scaled)
+
+behind : (m x : ℕ) → of_two (0, m) x ≡ m * (1 - (1 - x))
+behind m zero = omega arith
+behind m (suc x) = let one : 1 - (1 - suc x) ≡ 1 = omega arith in let scaled = ap (λ k. m * k) one in omega (arith, scaled)
+
+pub literal_ahead : (v : Values) (m e f h : ℕ) → f < h → of_two (m, 0) (v.before e f h) ≡ m * (1 - literal v e f h)
+literal_ahead v m e f h rises =
+    let is : literal v e f h ≡ v.before e f h = rw (lt-ltb f h rises) refl in
+    ahead m (v.before e f h) ∙ ap (λ x. m * (1 - x)) (sym is)
+
+pub literal_behind : (v : Values) (m e f h : ℕ) → h ≤ f → of_two (0, m) (v.before e h f) ≡ m * (1 - literal v e f h)
+literal_behind v m e f h falls =
+    let is : literal v e f h ≡ 1 - v.before e h f = rw (le-ltb f h falls) refl in
+    behind m (v.before e h f) ∙ ap (λ x. m * (1 - x)) (sym is)
+
+-- ---- a list, and a row
+
+pub list_more : (v : Values) (m e i : ℕ) (list : List ℕ) → 1 ≤ i → i < length list →
+    m * turns_along v e (take (i + 1) list) ≡ m * turns_along v e (take i list) + m * (1 - literal v e (get_or list (i - 1) 0) (get_or list i 0))
+list_more v m e i list first low =
+    let is : suc (i - 1) ≡ i = omega (arith, first) in
+    let next : suc (suc (i - 1)) ≡ i + 1 = omega (arith, first) in
+    let more : turns_along v e (take (i + 1) list) ≡ turns_along v e (take i list) + (1 - literal v e (get_or list (i - 1) 0) (get_or list i 0)) =
+        ap (λ k. turns_along v e (take k list)) (sym next) ∙ turns-more v e (i - 1) list (omega (arith, low, first))
+        ∙ ap (λ k. turns_along v e (take k list) + (1 - literal v e (get_or list (i - 1) 0) (get_or list k 0))) is in
+    let scaled = ap (λ x. m * x) more in
+    omega (arith, scaled)
+
+-- ---- where nothing is taken yet
+
+pub orders_start : (g : Graph) (s : State) (kept : OrdersKept) → kept.entries ≡ [] → kept.sum ≡ pos 0 → OrdersStand g s kept (λ v. pos 0 -ℤ pos 0)
+orders_start g s kept none sum = record {
+  least = least_of_one s (λ v. pos 0 -ℤ pos 0) kept.sum (λ v. omega (arith, ints, sum));
+  weigh = λ e f h rises below.
+      subst (λ (es : List (ℕ × (ℕ × ℕ))). Weighs s (order_given (s.placed e) f h) (λ v. v.before e f h) (λ v n. with_before v e f h n) (λ v. pos 0 -ℤ pos 0)
+        (weight 0 (mapped es (order_place (length g.ends) e f h))))
+      (sym none) (record {
+        moved = λ v n box allows. omega (arith, ints, of_two_none (v.before e f h), of_two_none n);
+      });
+}
