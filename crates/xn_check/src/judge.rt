@@ -110,7 +110,7 @@ impl Judge {
             Item::Extension(list) => self.rows.extension(alloc, graph, number, list),
             Item::Step(node) => self
                 .tree
-                .step(number, self.front.lower(), self.rows.whole(), &node),
+                .step(alloc, number, self.front.lower(), self.rows.whole(), &node),
             Item::End => self.tree.end(number),
             line => {
                 self.front.test(alloc, graph, self.loops, number, &line)?;

@@ -1,3 +1,4 @@
+pub mod Accounts
 pub mod Additions
 pub mod Changed
 pub mod Edges

@@ -1,5 +1,5 @@
 -- What a row says of its pairs, edge by edge, and the account from which the rows of a leaf are taken.
-use Rattle.std.proofs.Common.{◌≡◌, ⊥, ℕ, zero, suc, ◌+◌, ◌-◌, ◌*◌, ◌<◌, ◌≤◌, inl, inr, Bool, true, false, ◌&&◌, cond, eqb, List, [], ◌∷◌, length, drop, take, get_or, refl, sym, subst, ap, ◌∙◌, arith, length-drop, add-one, mul-le-mul_left}
+use Rattle.std.proofs.Common.{◌≡◌, ℕ, zero, suc, ◌+◌, ◌-◌, ◌*◌, ◌<◌, ◌≤◌, inl, inr, Bool, true, false, ◌&&◌, cond, eqb, List, [], ◌∷◌, length, drop, take, get_or, refl, sym, subst, ap, ◌∙◌, arith, length-drop, add-one, mul-le-mul_left}
 use Rattle.std.specs.Prelude.{ℤ, pos, ◌+ℤ◌, ◌-ℤ◌, ◌≤ℤ◌, All, Option, None, Some}
 use Rattle.std.proofs.lemmas.Bool.{cases_Bool, cond-false, eq-eqb, eqb-true, and_parts}
 use Rattle.std.proofs.lemmas.Int.{ints}
@@ -75,7 +75,7 @@ later_edges g row is_row i low k d within =
 
 -- ---- where nothing is taken yet
 
-of_two_none : (x : ℕ) → of_two (0, 0) x ≡ 0
+pub of_two_none : (x : ℕ) → of_two (0, 0) x ≡ 0
 of_two_none x = elim (cases_Bool (eqb x 0)) [
   | inl zero_is ↦ rw zero_is refl
   | inr more_is ↦ rw more_is refl
@@ -94,7 +94,7 @@ module _ (g : Graph) (s : State) where
   ones_below v box (p ∷ ps) = omega (arith, given_below v box p.0 p.1, ones_below v box ps)
 
   pub pairs_start : (d : ℕ) (kept : PairsKept) → weights_of kept.places ≡ no_weights → kept.sum ≡ pos (d * ones_given g s) →
-      PairsStand g s d kept (λ v. pos (d * crossings_in g v) -ℤ pos 0)
+      PairsStand g s d kept (λ v. pos (d * crossings_in g v))
   pairs_start d kept none sum = record {
     least = record {
       below_all = λ v box.
@@ -109,7 +109,7 @@ module _ (g : Graph) (s : State) where
       );
     };
     weigh = λ e f rises below apart.
-        subst (λ (w : ℕ × ℕ). Weighs s (s.decided e f) (λ v. v.crosses e f) (λ v n. with_cross v e f n) (λ v. pos (d * crossings_in g v) -ℤ pos 0) (weight d w))
+        subst (λ (w : ℕ × ℕ). Weighs s (s.decided e f) (λ v. v.crosses e f) (λ v n. with_cross v e f n) (λ v. pos (d * crossings_in g v)) (weight d w))
         (sym (ap (λ at. at (pair_place (length g.ends) e f)) none)) (record {
           moved = λ v n box allows.
               let more : crossings_in g (with_cross v e f n) + v.crosses e f ≡ crossings_in g v + n =

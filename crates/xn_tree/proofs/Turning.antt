@@ -1,7 +1,7 @@
 -- More taken of one order, and what the rows of a leaf say of the orders.
 use Rattle.std.proofs.Common.{◌≡◌, ◌≢◌, ℕ, zero, suc, ◌+◌, ◌-◌, ◌*◌, ◌<◌, ◌≤◌, inl, inr, Bool, true, false, ◌&&◌, cond, eqb, List, [], ◌∷◌, length, take, get_or, refl, sym, subst, ap, ◌∙◌, arith, add-one}
 use Rattle.std.specs.Prelude.{ℤ, pos, ◌+ℤ◌, ◌-ℤ◌, All}
-use Rattle.std.proofs.lemmas.Bool.{and_parts, cases_Bool, cond-false, eq-eqb, eqb-true, le-ltb, lt-ltb}
+use Rattle.std.proofs.lemmas.Bool.{and_parts, cases_Bool, cond-false, eq-eqb, eqb-true, le-ltb, lt-ltb, ne_eqb, or_left, or_right}
 use Rattle.std.proofs.lemmas.Int.{ints}
 use Rattle.xn_model.specs.Graph.{Graph}
 use Rattle.xn_model.specs.Lists.{has, total}
@@ -13,9 +13,10 @@ use Rattle.xn_tree.specs.Given.{pair_place}
 use Rattle.xn_tree.specs.Leaf.{IsRowOf, turns_along}
 use Rattle.xn_tree.specs.Least.{Weighs, order_given, with_before}
 use Rattle.xn_tree.specs.Scale.{OrdersKept, OrdersStand, Takes, TakesOff, account_of_orders, mapped, of_two, order_place, weight}
+use Rattle.xn_tree.proofs.Additions.{edge_in}
 use Rattle.xn_tree.proofs.Kept.{eqb-flip}
 use Rattle.xn_tree.proofs.Least.{before_variable, least_of_one}
-use Rattle.xn_tree.proofs.Neighbours.{turns-more}
+use Rattle.xn_tree.proofs.Neighbours.{total-take, turns-more}
 use Rattle.xn_tree.proofs.PairSums.{of_two_none}
 use Rattle.xn_tree.proofs.Table.{same_pair}
 use Rattle.xn_tree.proofs.Taking.{least_after, others_after, weighs_after}
@@ -71,11 +72,19 @@ module _ (g : Graph) (s : State) (e f h : ℕ) (rises : f < h) (below : h < leng
 
 ahead : (m x : ℕ) → of_two (m, 0) x ≡ m * (1 - x)
 ahead m zero = omega arith
-ahead m (suc x) = let none : 1 - suc x ≡ 0 = omega arith in let scaled = ap (λ k. m * k) none in omega (arith, scaled)
+ahead m (suc x) =
+    let here : of_two (m, 0) (suc x) ≡ 0 = rw (ne_eqb (suc x) 0 (λ same. omega (arith, same))) refl in
+    let none : 1 - suc x ≡ 0 = omega arith in
+    let scaled : m * (1 - suc x) ≡ m * 0 = ap (λ k. m * k) none in
+    omega (arith, here, scaled)
 
 behind : (m x : ℕ) → of_two (0, m) x ≡ m * (1 - (1 - x))
 behind m zero = omega arith
-behind m (suc x) = let one : 1 - (1 - suc x) ≡ 1 = omega arith in let scaled = ap (λ k. m * k) one in omega (arith, scaled)
+behind m (suc x) =
+    let here : of_two (0, m) (suc x) ≡ m = rw (ne_eqb (suc x) 0 (λ same. omega (arith, same))) refl in
+    let one : 1 - (1 - suc x) ≡ 1 = omega arith in
+    let scaled : m * (1 - (1 - suc x)) ≡ m * 1 = ap (λ k. m * k) one in
+    omega (arith, here, scaled)
 
 pub literal_ahead : (v : Values) (m e f h : ℕ) → f < h → of_two (m, 0) (v.before e f h) ≡ m * (1 - literal v e f h)
 literal_ahead v m e f h rises =
@@ -100,13 +109,33 @@ list_more v m e i list first low =
     let scaled = ap (λ x. m * x) more in
     omega (arith, scaled)
 
+pub row_turns_more : (v : Values) (m : ℕ) (ord : ℕ → List ℕ) (es : List ℕ) (i : ℕ) → i < length es →
+    m * total (λ x. turns_along v x (ord x)) (take (i + 1) es)
+    ≡ m * total (λ x. turns_along v x (ord x)) (take i es) + m * turns_along v (get_or es i 0) (ord (get_or es i 0))
+row_turns_more v m ord es i low =
+    let next = ap (λ k. total (λ x. turns_along v x (ord x)) (take k es)) (add-one i) ∙ total-take (λ x. turns_along v x (ord x)) es i 0 low in
+    let scaled = ap (λ x. m * x) next in
+    omega (arith, scaled)
+
+-- the edges in a list of a row are edges of the graph
+pub list_below : (g : Graph) (row : Row) → IsRowOf g row → (e : ℕ) → All (λ f. f < length g.ends) (orders_of row e)
+list_below g row is_row e k d low =
+    let f = get_or (orders_of row e) k d in
+    let here : has (orders_of row e) f ≡ true = has-get_or (orders_of row e) k d low in
+    edge_in g row is_row f (is_row.orders.within f e (is_row.orders.both_ways e f here))
+  where
+    has-get_or : (xs : List ℕ) (j t : ℕ) → j < length xs → has xs (get_or xs j t) ≡ true
+    has-get_or [] j t out = absurd (omega (arith, out))
+    has-get_or (x ∷ xs) zero t out = or_left (eqb x x) (has xs x) (eq-eqb x x refl)
+    has-get_or (x ∷ xs) (suc j) t out = or_right (eqb x (get_or xs j t)) (has xs (get_or xs j t)) (has-get_or xs j t (omega (arith, out)))
+
 -- ---- where nothing is taken yet
 
-pub orders_start : (g : Graph) (s : State) (kept : OrdersKept) → kept.entries ≡ [] → kept.sum ≡ pos 0 → OrdersStand g s kept (λ v. pos 0 -ℤ pos 0)
+pub orders_start : (g : Graph) (s : State) (kept : OrdersKept) → kept.entries ≡ [] → kept.sum ≡ pos 0 → OrdersStand g s kept (λ v. pos 0)
 orders_start g s kept none sum = record {
-  least = least_of_one s (λ v. pos 0 -ℤ pos 0) kept.sum (λ v. omega (arith, ints, sum));
+  least = least_of_one s (λ v. pos 0) kept.sum (λ v. omega (arith, ints, sum));
   weigh = λ e f h rises below.
-      subst (λ (es : List (ℕ × (ℕ × ℕ))). Weighs s (order_given (s.placed e) f h) (λ v. v.before e f h) (λ v n. with_before v e f h n) (λ v. pos 0 -ℤ pos 0)
+      subst (λ (es : List (ℕ × (ℕ × ℕ))). Weighs s (order_given (s.placed e) f h) (λ v. v.before e f h) (λ v n. with_before v e f h n) (λ v. pos 0)
         (weight 0 (mapped es (order_place (length g.ends) e f h))))
       (sym none) (record {
         moved = λ v n box allows. omega (arith, ints, of_two_none (v.before e f h), of_two_none n);

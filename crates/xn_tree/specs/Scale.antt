@@ -119,11 +119,13 @@ TakesPairs leaf = TakesOff (PairsStand leaf.graph.now (state_in leaf) leaf.d)
 abbrev pub HasRoom : Graph → PairsKept → Type 0
 HasRoom g kept = room_of kept.places ≡ length g.ends * length g.ends
 
--- what all pairs of a leaf give: the crossings, without what its rows say of the pairs
+-- what the rows of some parts say of the pairs
+abbrev pub pairs_part : Leaf → List (ℕ × ℕ) → Values → ℕ
+pairs_part leaf parts v = total (λ p. p.1 * pairs_value leaf.graph.now (row_at leaf.rows.now p.0) v) parts
+
+-- what all pairs of a leaf give: the crossings, without that
 abbrev pub pairs_left : Leaf → Values → ℤ
-pairs_left leaf v =
-    pos (leaf.d * crossings_in leaf.graph.now v)
-    -ℤ pos (total (λ p. p.1 * pairs_value leaf.graph.now (row_at leaf.rows.now p.0) v) leaf.parts.now)
+pairs_left leaf v = pos (leaf.d * crossings_in leaf.graph.now v) -ℤ pos (pairs_part leaf leaf.parts.now v)
 
 -- an account of orders, whose places stand in a map
 pub record OrdersKept : Type 0 where
@@ -156,6 +158,10 @@ pub record OrdersStand (g : Graph) (s : State) (kept : OrdersKept) (number : Val
 abbrev pub TakesOrders : Leaf → OrdersKept → OrdersKept → (Values → ℕ) → Type 0
 TakesOrders leaf = TakesOff (OrdersStand leaf.graph.now (state_in leaf))
 
--- what the rows of a leaf say of the orders is taken
+-- what the rows of some parts say of the orders
+abbrev pub orders_part : Leaf → List (ℕ × ℕ) → Values → ℕ
+orders_part leaf parts v = total (λ p. p.1 * turns_value (row_at leaf.rows.now p.0) v) parts
+
+-- that is taken
 abbrev pub orders_left : Leaf → Values → ℤ
-orders_left leaf v = pos 0 -ℤ pos (total (λ p. p.1 * turns_value (row_at leaf.rows.now p.0) v) leaf.parts.now)
+orders_left leaf v = pos 0 -ℤ pos (orders_part leaf leaf.parts.now v)

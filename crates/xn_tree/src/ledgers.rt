@@ -1,5 +1,5 @@
 // What was taken of the pairs, and the least after that.
-ghost use Rattle.std.specs.Prelude.{◌≡◌, ◌<◌, ◌≤◌, ◌^◌, ◌×◌, IfOk, OnOk, ℤ, pos, ◌-ℤ◌, ◌≤ℤ◌};
+ghost use Rattle.std.specs.Prelude.{◌≡◌, ◌+◌, ◌<◌, ◌≤◌, ◌^◌, IfOk, OnOk, ℤ, pos, ◌-ℤ◌, ◌≤ℤ◌};
 ghost use Rattle.xn_tree.specs.Leaf.{IsSmall};
 ghost use Rattle.xn_tree.specs.Least.{IsChange};
 ghost use Rattle.xn_tree.specs.Scale.{Takes, account_of, no_weights, room_of, weight, weights_of};
@@ -28,15 +28,26 @@ impl Model for PairLedger {
 }
 
 impl PairLedger {
-    /// Nothing is taken, of so many places. It fails only for want of memory.
-    pub fn new(alloc: Global, room: usize) -> Result<PairLedger, AllocError>
-        ensures room { IfOk result (λ l. room_of l.places ≡ room) }
-    {
-        Ok(PairLedger {
-            table: PlaceTable::new(alloc, room)?,
+    /// No places, of which nothing is taken. It takes no memory.
+    pub fn new(alloc: Global) -> PairLedger {
+        PairLedger {
+            table: PlaceTable::empty(alloc),
             sum: 0,
             terms: 0,
-        })
+        }
+    }
+
+    /// Makes room for so many places, where it hasn't just that, and nothing is taken then. After want of memory it is as before.
+    pub fn fit(&mut self, alloc: Global, room: usize) -> Result<(), AllocError>
+        ensures { IfOk result (λ _. room_of self.new.places ≡ room) }
+    {
+        if self.table.room() == room {
+            return Ok(());
+        }
+        self.table = PlaceTable::new(alloc, room)?;
+        self.sum = 0;
+        self.terms = 0;
+        Ok(())
     }
 
     /// Nothing is taken any more, and the least is this number. It takes no memory.
@@ -67,20 +78,18 @@ impl PairLedger {
         place: usize,
         given: Option<bool>,
         d: u64,
-        less: (u64, u64),
+        zero: u64,
+        one: u64,
     ) -> Result<(), AllocError>
         requires place { place < room_of self.old.places }
         requires few { self.old.terms < 2 ^ 40 }
         ensures room { room_of self.new.places ≡ room_of self.old.places }
         ensures takes { IfOk result (λ _. Takes given d place less (account_of self.old) (account_of self.new)) }
     {
-        let (zero, one) = self.table.get(place);
-        let change = weight_change(given, d, (zero, one), less);
-        self.table.put(
-            place,
-            zero + u128::from(less.0),
-            one + u128::from(less.1),
-        )?;
+        let old = self.table.get(place);
+        let change = weight_change(given, d, old, zero, one);
+        self.table
+            .put(place, old.0 + u128::from(zero), old.1 + u128::from(one))?;
         self.sum += change;
         self.terms += 1;
         Ok(())
@@ -88,12 +97,12 @@ impl PairLedger {
 }
 
 /// How the least of a place changes where so much is taken of it.
-pub fn weight_change(given: Option<bool>, d: u64, weights: (u128, u128), less: (u64, u64)) -> i128
-    requires small { (weights.0 ≤ 2 ^ 104) × (weights.1 ≤ 2 ^ 104) }
-    ensures change { IsChange given (weight d weights 0) (weight d weights 1) less.0 less.1 result }
+pub fn weight_change(given: Option<bool>, d: u64, old: (u128, u128), zero: u64, one: u64) -> i128
+    requires { (old.0 ≤ 2 ^ 104) × (old.1 ≤ 2 ^ 104) }
+    ensures change { IsChange given (weight d old 0) (weight d old 1) zero one result }
     ensures small { IsSmall 1 result }
 {
-    let zero = -(weights.0 as i128);
-    let one = i128::from(d) - weights.1 as i128;
-    least_change(given, zero, one, less.0, less.1)
+    let at_zero = -(old.0 as i128);
+    let at_one = i128::from(d) - old.1 as i128;
+    least_change(given, at_zero, at_one, zero, one)
 }

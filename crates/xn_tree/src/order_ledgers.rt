@@ -50,16 +50,14 @@ impl OrderLedger {
 
     /// Takes more of a place: so much where its variable is 0, and so much where it is 1. After want of memory the ledger is of no
     /// use.
-    pub fn take(&mut self, place: u64, given: Option<bool>, less: (u64, u64)) -> Result<(), AllocError>
+    pub fn take(&mut self, place: u64, given: Option<bool>, zero: u64, one: u64) -> Result<(), AllocError>
         requires few { self.old.terms < 2 ^ 40 }
-        ensures { IfOk result (λ _. Takes given 0 place less (account_of_orders self.old) (account_of_orders self.new)) }
+        ensures { IfOk result (λ _. Takes given 0 place (zero, one) (account_of_orders self.old) (account_of_orders self.new)) }
     {
-        let (zero, one) = self.weights.get(&place).copied().unwrap_or((0, 0));
-        let change = weight_change(given, 0, (zero, one), less);
-        self.weights.insert(
-            place,
-            (zero + u128::from(less.0), one + u128::from(less.1)),
-        )?;
+        let old = self.weights.get(&place).copied().unwrap_or((0, 0));
+        let change = weight_change(given, 0, old, zero, one);
+        let new = (old.0 + u128::from(zero), old.1 + u128::from(one));
+        self.weights.insert(place, new)?;
         self.sum += change;
         self.terms += 1;
         Ok(())

@@ -5,7 +5,7 @@ ghost use Rattle.xn_kinds.specs.Bound.{IsLeastOver};
 ghost use Rattle.xn_kinds.specs.Row.{literal, turns_value};
 ghost use Rattle.xn_kinds.specs.State.{InBox};
 ghost use Rattle.xn_tree.specs.Leaf.{IsLeaf, IsRowOf, IsSmall, state_in, turns_along};
-ghost use Rattle.xn_tree.specs.Scale.{TakesOrders, of_two, order_place, orders_left};
+ghost use Rattle.xn_tree.specs.Scale.{TakesOrders, of_two, order_place, orders_left, orders_part};
 
 use crate::leaves::Leaf;
 use crate::order_ledgers::OrderLedger;
@@ -30,7 +30,8 @@ fn take_order(
     leaf: &Leaf,
     e: u32,
     two: (u32, u32),
-    less: (u64, u64),
+    zero: u64,
+    one: u64,
 ) -> Result<(), AllocError>
     requires leaf { IsLeaf leaf.now }
     requires edge { e < length leaf.now.graph.now.ends }
@@ -38,11 +39,11 @@ fn take_order(
     requires below { two.1 < length leaf.now.graph.now.ends }
     requires few { ledger.old.terms < 2 ^ 40 }
     ensures terms { IfOk result (λ _. ledger.new.terms ≡ ledger.old.terms + 1) }
-    ensures takes { IfOk result (λ _. TakesOrders leaf.now ledger.old ledger.new (λ v. of_two less (v.before e two.0 two.1))) }
+    ensures takes { IfOk result (λ _. TakesOrders leaf.now ledger.old ledger.new (λ v. of_two (zero, one) (v.before e two.0 two.1))) }
 {
     let place = place_of(leaf.graph.edges(), e, two.0, two.1);
     let given = order_in(leaf.given.placed(e), two.0, two.1);
-    ledger.take(place, given, less)?;
+    ledger.take(place, given, zero, one)?;
     Ok(())
 }
 
@@ -65,9 +66,9 @@ fn take_turn(
     ensures takes { IfOk result (λ _. TakesOrders leaf.now ledger.old ledger.new (λ v. m * (1 - literal v e f g))) }
 {
     if f < g {
-        take_order(ledger, leaf, e, (f, g), (m, 0))
+        take_order(ledger, leaf, e, (f, g), m, 0)
     } else {
-        take_order(ledger, leaf, e, (g, f), (0, m))
+        take_order(ledger, leaf, e, (g, f), 0, m)
     }
 }
 
@@ -113,6 +114,18 @@ fn take_row(
     Ok(())
 }
 
+// What the rows of a leaf say of the orders.
+fn take_rows(ledger: &mut OrderLedger, leaf: &Leaf) -> Result<(), AllocError>
+    requires leaf { IsLeaf leaf.now }
+    requires none { ledger.old.terms ≡ 0 }
+    ensures { IfOk result (λ _. TakesOrders leaf.now ledger.old ledger.new (orders_part leaf.now leaf.now.parts.now)) }
+{
+    for (number, m) in leaf.parts {
+        take_row(ledger, leaf, *m, &leaf.rows[*number as usize])?;
+    }
+    Ok(())
+}
+
 /// The least of what is taken by the orders of the rows. It fails only for want of memory.
 pub fn orders_least(alloc: Global, leaf: &Leaf) -> Result<i128, AllocError>
     requires { IsLeaf leaf.now }
@@ -120,8 +133,6 @@ pub fn orders_least(alloc: Global, leaf: &Leaf) -> Result<i128, AllocError>
     ensures small { IfOk result (IsSmall (2 ^ 40 + 1)) }
 {
     let mut ledger = OrderLedger::new(alloc);
-    for (number, m) in leaf.parts {
-        take_row(&mut ledger, leaf, *m, &leaf.rows[*number as usize])?;
-    }
+    take_rows(&mut ledger, leaf)?;
     Ok(ledger.sum())
 }

@@ -1,23 +1,16 @@
 // What the rows of a leaf say of the pairs, taken row by row.
-ghost use Rattle.std.specs.Prelude.{◌≡◌, ◌+◌, ◌*◌, ◌<◌, ◌≤◌, ◌^◌, All, IfOk, drop, length};
+ghost use Rattle.std.specs.Prelude.{◌≡◌, ◌+◌, ◌*◌, ◌<◌, ◌≤◌, ◌^◌, All, IfOk, drop, length, pos};
 ghost use Rattle.xn_kinds.specs.Bound.{IsLeastOver};
 ghost use Rattle.xn_kinds.specs.Row.{pairs_value};
 ghost use Rattle.xn_kinds.specs.State.{InBox};
 ghost use Rattle.xn_tree.specs.Leaf.{IsLeaf, IsRowOf, IsSmall, state_in};
-ghost use Rattle.xn_tree.specs.Scale.{HasRoom, TakesPairs, pair_part, pairs_left, partners_part, takes_of};
+ghost use Rattle.xn_tree.specs.Scale.{HasRoom, TakesPairs, pair_part, pairs_left, pairs_part, partners_part};
 
 use crate::leaves::Leaf;
 use crate::ledgers::PairLedger;
 use crate::lists::has;
 use std::alloc::AllocError;
 use xn_kinds::Row;
-
-// What a term takes m times for 0 and for 1: whether its pair crosses in the row.
-fn term_of(crossed: bool, m: u64) -> (u64, u64)
-    ensures { result ≡ takes_of crossed m }
-{
-    if crossed { (m, 0) } else { (0, m) }
-}
 
 // What a row in which the two edges cross, or don't, says of them, m times.
 fn take_pair(
@@ -41,8 +34,12 @@ fn take_pair(
         return Ok(());
     }
     let place = e as usize * leaf.graph.edges() as usize + f as usize;
-    ledger.take(place, leaf.given.value(e, f), leaf.d, term_of(crossed, m))?;
-    Ok(())
+    let given = leaf.given.value(e, f);
+    if crossed {
+        ledger.take(place, given, leaf.d, m, 0)
+    } else {
+        ledger.take(place, given, leaf.d, 0, m)
+    }
 }
 
 // What a row says of an edge with some later ones, m times. Its list in the row is given.
@@ -100,17 +97,36 @@ fn behind(list: &[u32], i: usize) -> &[u32]
     &list[i + 1..]
 }
 
+// What the rows of a leaf say of the pairs.
+fn take_rows(ledger: &mut PairLedger, leaf: &Leaf) -> Result<(), AllocError>
+    requires leaf { IsLeaf leaf.now }
+    requires room { HasRoom leaf.now.graph.now ledger.old }
+    requires none { ledger.old.terms ≡ 0 }
+    ensures { IfOk result (λ _. TakesPairs leaf.now ledger.old ledger.new (pairs_part leaf.now leaf.now.parts.now)) }
+{
+    for (number, m) in leaf.parts {
+        take_row(ledger, leaf, *m, &leaf.rows[*number as usize])?;
+    }
+    Ok(())
+}
+
+// So much for each of some pairs.
+fn times(d: u64, count: u32) -> i128
+    requires { count ≤ 1000000 }
+    ensures product { result ≡ pos (d * count) }
+    ensures small { IsSmall 1 result }
+{
+    (u128::from(d) * u128::from(count)) as i128
+}
+
 /// The least of what all pairs of edges give to the value of a leaf. It fails only for want of memory.
 pub fn pairs_least(ledger: &mut PairLedger, leaf: &Leaf) -> Result<i128, AllocError>
     requires leaf { IsLeaf leaf.now }
     requires room { HasRoom leaf.now.graph.now ledger.old }
-    ensures room { HasRoom leaf.now.graph.now ledger.new }
     ensures least { IfOk result (λ b. IsLeastOver (InBox (state_in leaf.now)) (pairs_left leaf.now) b) }
     ensures small { IfOk result (IsSmall (2 ^ 40 + 1)) }
 {
-    ledger.start(i128::from(leaf.d) * i128::from(leaf.given.ones()));
-    for (number, m) in leaf.parts {
-        take_row(ledger, leaf, *m, &leaf.rows[*number as usize])?;
-    }
+    ledger.start(times(leaf.d, leaf.given.ones()));
+    take_rows(ledger, leaf)?;
     Ok(ledger.sum())
 }

@@ -30,6 +30,17 @@ impl Model for PlaceTable {
 }
 
 impl PlaceTable {
+    /// A table without places. It takes no memory.
+    pub fn empty(alloc: Global) -> PlaceTable
+        ensures room { room_of result ≡ 0 }
+        ensures at { weights_of result ≡ no_weights }
+    {
+        PlaceTable {
+            slots: Vec::new(alloc),
+            entries: Vec::new(alloc),
+        }
+    }
+
     /// Zeros for so many places. It fails only for want of memory.
     pub fn new(alloc: Global, room: usize) -> Result<PlaceTable, AllocError>
         ensures room { IfOk result (λ t. room_of t ≡ room) }
@@ -39,6 +50,13 @@ impl PlaceTable {
             slots: vec![in alloc; 0; room]?,
             entries: Vec::new(alloc),
         })
+    }
+
+    /// How many places it has.
+    pub fn room(&self) -> usize
+        ensures { result ≡ room_of self.now }
+    {
+        self.slots.len()
     }
 
     /// Each place has zeros again. It takes no memory.
