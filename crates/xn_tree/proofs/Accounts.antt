@@ -1,11 +1,12 @@
 -- An account after one term more.
-use Rattle.std.proofs.Common.{◌≡◌, ℕ, ◌+◌, ◌*◌, ◌<◌, ◌≤◌, ◌^◌, inl, inr, Bool, cond, eqb, refl, sym, subst, ap, ◌∙◌, arith}
-use Rattle.std.specs.Prelude.{ℤ, pos, ◌+ℤ◌, ◌-ℤ◌, Option}
+use Rattle.std.proofs.Common.{◌≡◌, ℕ, ◌+◌, ◌*◌, ◌<◌, ◌≤◌, ◌^◌, inl, inr, Bool, cond, eqb, List, refl, sym, subst, ap, ◌∙◌, arith}
+use Rattle.std.specs.Prelude.{ℤ, pos, ◌+ℤ◌, ◌-ℤ◌, Option, Some, unwrap_or}
+use Rattle.std.specs.Map.{lookup}
 use Rattle.std.proofs.lemmas.Bool.{cases_eq, eq-eqb, ne_eqb}
 use Rattle.std.proofs.lemmas.Int.{ints}
 use Rattle.xn_tree.specs.Leaf.{IsSmall}
 use Rattle.xn_tree.specs.Least.{IsChange}
-use Rattle.xn_tree.specs.Scale.{Account, IsAccount, Takes, Weights, no_weights, weight, with_weights}
+use Rattle.xn_tree.specs.Scale.{Account, IsAccount, Takes, Weights, mapped, no_weights, weight, with_weights}
 
 abbrev pub account : Weights → ℤ → ℕ → Account
 account at sum terms = record { at = at; sum = sum; terms = terms }
@@ -68,3 +69,18 @@ module _ (given : Option Bool) (d place : ℕ) (less two more : ℕ × ℕ) (at 
     few = omega (arith, few, counted);
     small = (omega (arith, ints, kept.small, small, counted, added), omega (arith, ints, kept.small, small, counted, added));
   }
+
+-- a map in which a place has other numbers
+pub mapped_more : (old new : List (ℕ × (ℕ × ℕ))) (place : ℕ) (w : ℕ × ℕ) →
+    ((q : ℕ) → lookup (eqb q) new ≡ cond (eqb place q) (Some w) (lookup (eqb q) old)) → mapped new ≡ with_weights (mapped old) place w
+mapped_more old new place w updates = λ i q. at_each q i
+  where
+    at_each : (q : ℕ) → mapped new q ≡ with_weights (mapped old) place w q
+    at_each q = elim (cases_eq q place) [
+      | inl here ↦
+          let there : lookup (eqb q) new ≡ Some w = updates q ∙ (rw (eq-eqb place q (sym here)) refl) in
+          rw (eq-eqb q place here) (ap (λ (o : Option (ℕ × ℕ)). unwrap_or o (0, 0)) there)
+      | inr other ↦
+          let there : lookup (eqb q) new ≡ lookup (eqb q) old = updates q ∙ (rw (ne_eqb place q (λ same. other (sym same))) refl) in
+          rw (ne_eqb q place other) (ap (λ (o : Option (ℕ × ℕ)). unwrap_or o (0, 0)) there)
+    ]

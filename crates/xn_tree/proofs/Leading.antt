@@ -1,6 +1,6 @@
 -- What is taken one after another.
 use Rattle.std.proofs.Common.{◌≡◌, ℕ, ◌+◌, subst, arith}
-use Rattle.std.specs.Prelude.{ℤ, pos, ◌+ℤ◌, ◌-ℤ◌}
+use Rattle.std.specs.Prelude.{ℤ, pos, ◌+ℤ◌, ◌-ℤ◌, IfOk, Result, Ok, Err}
 use Rattle.std.proofs.lemmas.Int.{ints}
 use Rattle.xn_kinds.specs.Row.{Values}
 use Rattle.xn_tree.specs.Scale.{TakesOff}
@@ -38,3 +38,9 @@ module _ {A : Type 0} (Stand : A → (Values → ℤ) → Type 0) where
   pub off_same : (a b : A) (less all : Values → ℕ) → TakesOff Stand a b less → ((v : Values) → less v ≡ all v) → TakesOff Stand a b all
   off_same a b less all off same number stands =
       stands_same b (λ v. number v -ℤ pos (less v)) (λ v. number v -ℤ pos (all v)) (λ v. omega (arith, ints, same v)) (off number stands)
+
+  -- where it was taken without a failure
+  pub off_ok : (a b : A) (less all : Values → ℕ) → ((v : Values) → less v ≡ all v) → {X E : Type 0} (result : Result X E) →
+      IfOk result (λ u. TakesOff Stand a b less) → IfOk result (λ u. TakesOff Stand a b all)
+  off_ok a b less all same (Ok u) off = off_same a b less all off same
+  off_ok a b less all same (Err e) off = tt

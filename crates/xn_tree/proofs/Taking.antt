@@ -1,6 +1,6 @@
 -- More taken of one variable: the least then, and what each variable weighs then.
 use Rattle.std.proofs.Common.{◌≡◌, ◌≢◌, ℕ, zero, suc, ◌+◌, ◌-◌, ◌*◌, ◌<◌, ◌≤◌, inl, inr, Bool, true, false, ◌&&◌, cond, eqb, length, refl, sym, subst, ap, ◌∙◌, arith}
-use Rattle.std.specs.Prelude.{ℤ, pos, ◌+ℤ◌, ◌-ℤ◌, Option}
+use Rattle.std.specs.Prelude.{ℤ, pos, ◌+ℤ◌, ◌-ℤ◌, Option, max, min}
 use Rattle.std.proofs.lemmas.Bool.{and_parts, cases_Bool, cond-false, eq-eqb, eqb-true, ne_eqb}
 use Rattle.std.proofs.lemmas.Int.{ints}
 use Rattle.xn_model.specs.Graph.{Graph, Independent, independent}
@@ -115,6 +115,19 @@ module _ (g : Graph) (s : State) (d m e f : ℕ) (rises : e < f) (below : f < le
       let is : (v : Values) → number v -ℤ pos (m * term_at crossed (v.crosses e f)) ≡ number v -ℤ pos (m * pair_part g crossed v e f) =
           λ v. ap (λ x. number v -ℤ pos (m * x)) (sym (rw apart refl)) in
       subst (PairsStand g s d new) (λ i v. is v i) (term_taken number stands)
+
+-- the same, as a call finds it
+pub pair_taken_at : (g : Graph) (s : State) (d m e f : ℕ) → e < f → f < length g.ends → Independent g.ends e f → (crossed : Bool) (old new : PairsKept)
+    (given : Option Bool) (place : ℕ) (two : ℕ × ℕ) → given ≡ s.decided (min e f) (max e f) → place ≡ pair_place (length g.ends) e f → two ≡ takes_of crossed m →
+    Takes given d place two (account_of old) (account_of new) → TakesOff (PairsStand g s d) old new (λ v. m * pair_part g crossed v e f)
+pair_taken_at g s d m e f rises below apart crossed old new given place two is_given is_place is_two takes =
+    let low : min e f ≡ e = omega (arith, rises) in
+    let high : max e f ≡ f = omega (arith, rises) in
+    let is : given ≡ s.decided e f = is_given ∙ ap (λ x. s.decided x (max e f)) low ∙ ap (s.decided e) high in
+    pair_taken g s d m e f rises below apart crossed old new
+    (subst (λ (o : Option Bool). Takes o d (pair_place (length g.ends) e f) (takes_of crossed m) (account_of old) (account_of new)) is
+    (subst (λ (p : ℕ). Takes given d p (takes_of crossed m) (account_of old) (account_of new)) is_place
+    (subst (λ (w : ℕ × ℕ). Takes given d place w (account_of old) (account_of new)) is_two takes)))
 
 -- nothing is taken of edges that meet
 pub pair_none : (g : Graph) (s : State) (d m e f : ℕ) (crossed : Bool) (old : PairsKept) → independent g.ends e f ≡ false →

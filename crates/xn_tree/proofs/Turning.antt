@@ -1,6 +1,6 @@
 -- More taken of one order, and what the rows of a leaf say of the orders.
 use Rattle.std.proofs.Common.{◌≡◌, ◌≢◌, ℕ, zero, suc, ◌+◌, ◌-◌, ◌*◌, ◌<◌, ◌≤◌, inl, inr, Bool, true, false, ◌&&◌, cond, eqb, List, [], ◌∷◌, length, take, get_or, refl, sym, subst, ap, ◌∙◌, arith, add-one}
-use Rattle.std.specs.Prelude.{ℤ, pos, ◌+ℤ◌, ◌-ℤ◌, All}
+use Rattle.std.specs.Prelude.{ℤ, pos, ◌+ℤ◌, ◌-ℤ◌, All, Option}
 use Rattle.std.proofs.lemmas.Bool.{and_parts, cases_Bool, cond-false, eq-eqb, eqb-true, le-ltb, lt-ltb, ne_eqb, or_left, or_right}
 use Rattle.std.proofs.lemmas.Int.{ints}
 use Rattle.xn_model.specs.Graph.{Graph}
@@ -22,21 +22,21 @@ use Rattle.xn_tree.proofs.Table.{same_pair}
 use Rattle.xn_tree.proofs.Taking.{least_after, others_after, weighs_after}
 
 -- no two orders have the same place
-same_order : (n a b c e f h : ℕ) → b < n → c < n → f < n → h < n → order_place n a b c ≡ order_place n e f h → (a ≡ e) × (b ≡ f) × (c ≡ h)
-same_order n a b c e f h b_in c_in f_in h_in same =
-    let last = same_pair n (pair_place n a b) c (pair_place n e f) h c_in h_in same in
-    let first = same_pair n a b e f b_in f_in last.0 in
+same_order : (a b c e f h : ℕ) → b < 1000 → c < 1000 → f < 1000 → h < 1000 → order_place a b c ≡ order_place e f h → (a ≡ e) × (b ≡ f) × (c ≡ h)
+same_order a b c e f h b_in c_in f_in h_in same =
+    let last = same_pair 1000 (pair_place 1000 a b) c (pair_place 1000 e f) h c_in h_in same in
+    let first = same_pair 1000 a b e f b_in f_in last.0 in
     (first.0, first.1, last.1)
 
 not_both_ways : (e f h a b c : ℕ) → (eqb a e && (eqb b f && eqb c h)) ≡ false → (eqb e a && (eqb f b && eqb h c)) ≡ false
 not_both_ways e f h a b c other = rw (eqb-flip e a, eqb-flip f b, eqb-flip h c) other
 
-module _ (g : Graph) (s : State) (e f h : ℕ) (rises : f < h) (below : h < length g.ends) (two : ℕ × ℕ) (old new : OrdersKept)
-    (takes : Takes (order_given (s.placed e) f h) 0 (order_place (length g.ends) e f h) two (account_of_orders old) (account_of_orders new)) where
+module _ (g : Graph) (s : State) (few : length g.ends ≤ 1000) (e f h : ℕ) (rises : f < h) (below : h < length g.ends) (two : ℕ × ℕ) (old new : OrdersKept)
+    (takes : Takes (order_given (s.placed e) f h) 0 (order_place e f h) two (account_of_orders old) (account_of_orders new)) where
   other_order : (a b c : ℕ) → b < c → c < length g.ends → (eqb a e && (eqb b f && eqb c h)) ≡ false →
-      order_place (length g.ends) a b c ≢ order_place (length g.ends) e f h
+      order_place a b c ≢ order_place e f h
   other_order a b c rise low other same =
-      let all = same_order (length g.ends) a b c e f h (omega (arith, rise, low)) low (omega (arith, rises, below)) below same in
+      let all = same_order a b c e f h (omega (arith, rise, low, few)) (omega (arith, low, few)) (omega (arith, rises, below, few)) (omega (arith, below, few)) same in
       let here : (eqb a e && (eqb b f && eqb c h)) ≡ true = rw (eq-eqb a e all.0, eq-eqb b f all.1, eq-eqb c h all.2) refl in
       let clash = sym here ∙ other in
       absurd (cc)
@@ -48,25 +48,34 @@ module _ (g : Graph) (s : State) (e f h : ℕ) (rises : f < h) (below : h < leng
       let here = stands.weigh e f h rises below in
       record {
         least = least_after s (order_given (s.placed e) f h) (λ v. v.before e f h) (λ v n. with_before v e f h n) (before_variable s e f h) 0
-            (order_place (length g.ends) e f h) two (account_of_orders old) (account_of_orders new) takes number less is stands.least here;
+            (order_place e f h) two (account_of_orders old) (account_of_orders new) takes number less is stands.least here;
         weigh = λ a b c rise low. elim (cases_Bool (eqb a e && (eqb b f && eqb c h))) [
           | inl same ↦
               let parts : (eqb a e ≡ true) × ((eqb b f && eqb c h) ≡ true) = and_parts _ _ same in
               let more : (eqb b f ≡ true) × (eqb c h ≡ true) = and_parts _ _ parts.1 in
               let Here : ℕ → ℕ → ℕ → Type 0 = λ p q t. Weighs s (order_given (s.placed p) q t) (λ v. v.before p q t) (λ v n. with_before v p q t n)
-                  (λ v. number v -ℤ pos (less v)) (weight 0 (mapped new.entries (order_place (length g.ends) p q t))) in
+                  (λ v. number v -ℤ pos (less v)) (weight 0 (mapped new.entries (order_place p q t))) in
               let own : Here e f h = weighs_after s (order_given (s.placed e) f h) (λ v. v.before e f h) (λ v n. with_before v e f h n) (before_variable s e f h) 0
-                  (order_place (length g.ends) e f h) two (account_of_orders old) (account_of_orders new) takes number less is here in
+                  (order_place e f h) two (account_of_orders old) (account_of_orders new) takes number less is here in
               subst (λ (p : ℕ). Here p b c) (sym (eqb-true a e parts.0)) (subst (λ (q : ℕ). Here e q c) (sym (eqb-true b f more.0))
               (subst (λ (t : ℕ). Here e f t) (sym (eqb-true c h more.1)) own))
           | inr other ↦
               others_after s (order_given (s.placed e) f h) (λ v. v.before e f h) (λ v n. with_before v e f h n) (before_variable s e f h) 0
-              (order_place (length g.ends) e f h) two (account_of_orders old) (account_of_orders new) takes number less is
-              (order_given (s.placed a) b c) (λ v. v.before a b c) (λ v n. with_before v a b c n) (order_place (length g.ends) a b c) (other_order a b c rise low other)
+              (order_place e f h) two (account_of_orders old) (account_of_orders new) takes number less is
+              (order_given (s.placed a) b c) (λ v. v.before a b c) (λ v n. with_before v a b c n) (order_place a b c) (other_order a b c rise low other)
               (λ v n. ap (of_two two) (cond-false _ _ _ (not_both_ways e f h a b c other)))
               (stands.weigh a b c rise low)
         ];
       }
+
+-- the same, as a call finds it
+pub order_taken_at : (g : Graph) (s : State) → length g.ends ≤ 1000 → (e f h : ℕ) → f < h → h < length g.ends → (two : ℕ × ℕ) (old new : OrdersKept) (given : Option Bool) (place : ℕ) →
+    given ≡ order_given (s.placed e) f h → place ≡ order_place e f h → Takes given 0 place two (account_of_orders old) (account_of_orders new) →
+    TakesOff (OrdersStand g s) old new (λ v. of_two two (v.before e f h))
+order_taken_at g s few e f h rises below two old new given place is_given is_place takes =
+    order_taken g s few e f h rises below two old new
+    (subst (λ (o : Option Bool). Takes o 0 (order_place e f h) two (account_of_orders old) (account_of_orders new)) is_given
+    (subst (λ (p : ℕ). Takes given 0 p two (account_of_orders old) (account_of_orders new)) is_place takes))
 
 -- ---- two neighbours in a list
 
@@ -136,7 +145,7 @@ orders_start g s kept none sum = record {
   least = least_of_one s (λ v. pos 0) kept.sum (λ v. omega (arith, ints, sum));
   weigh = λ e f h rises below.
       subst (λ (es : List (ℕ × (ℕ × ℕ))). Weighs s (order_given (s.placed e) f h) (λ v. v.before e f h) (λ v n. with_before v e f h n) (λ v. pos 0)
-        (weight 0 (mapped es (order_place (length g.ends) e f h))))
+        (weight 0 (mapped es (order_place e f h))))
       (sym none) (record {
         moved = λ v n box allows. omega (arith, ints, of_two_none (v.before e f h), of_two_none n);
       });

@@ -143,16 +143,16 @@ mapped entries place = unwrap_or (lookup (nat_eq place) entries) (0, 0)
 abbrev pub account_of_orders : OrdersKept → Account
 account_of_orders v = record { at = mapped v.entries; sum = v.sum; terms = v.terms }
 
--- the place of the order of f and g on e, f below g, in a graph with so many edges
-abbrev pub order_place : ℕ → ℕ → ℕ → ℕ → ℕ
-order_place edges e f g = pair_place edges (pair_place edges e f) g
+-- the place of the order of f and g on e, f below g, in a graph of at most 1,000 edges
+abbrev pub order_place : ℕ → ℕ → ℕ → ℕ
+order_place e f g = pair_place 1000 (pair_place 1000 e f) g
 
 -- the sum is the least of the number, and each order weighs in it what is kept of its place
 pub record OrdersStand (g : Graph) (s : State) (kept : OrdersKept) (number : Values → ℤ) : Type 0 where
   pub least : IsLeastOver (InBox s) number kept.sum
   pub weigh : (e f h : ℕ) → f < h → h < length g.ends →
       Weighs s (order_given (s.placed e) f h) (λ v. v.before e f h) (λ v n. with_before v e f h n) number
-      (weight 0 (mapped kept.entries (order_place (length g.ends) e f h)))
+      (weight 0 (mapped kept.entries (order_place e f h)))
 
 -- where the old account of orders stands for a number, the new one stands for it without so much
 abbrev pub TakesOrders : Leaf → OrdersKept → OrdersKept → (Values → ℕ) → Type 0

@@ -84,7 +84,7 @@ impl PairLedger {
         requires place { place < room_of self.old.places }
         requires few { self.old.terms < 2 ^ 40 }
         ensures room { room_of self.new.places ≡ room_of self.old.places }
-        ensures takes { IfOk result (λ _. Takes given d place less (account_of self.old) (account_of self.new)) }
+        ensures takes { IfOk result (λ _. Takes given d place (zero, one) (account_of self.old) (account_of self.new)) }
     {
         let old = self.table.get(place);
         let change = weight_change(given, d, old, zero, one);

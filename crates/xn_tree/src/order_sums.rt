@@ -13,15 +13,12 @@ use crate::turns::order_in;
 use std::alloc::{AllocError, Global};
 use xn_kinds::Row;
 
-// The place of the order of two edges on an edge, among so many edges.
-fn place_of(edges: u32, e: u32, f: u32, g: u32) -> u64
-    requires few { edges ≤ 1000 }
-    requires first { e < edges }
-    requires second { f < edges }
-    requires third { g < edges }
-    ensures { result ≡ order_place edges e f g }
+// The place of the order of two edges on an edge.
+fn place_of(e: u32, f: u32, g: u32) -> u64
+    requires { (e < 1000) × (f < 1000) × (g < 1000) }
+    ensures { result ≡ order_place e f g }
 {
-    (u64::from(e) * u64::from(edges) + u64::from(f)) * u64::from(edges) + u64::from(g)
+    (u64::from(e) * 1_000 + u64::from(f)) * 1_000 + u64::from(g)
 }
 
 // So much where f doesn't stand before g on e, and so much where it does, f below g.
@@ -41,7 +38,7 @@ fn take_order(
     ensures terms { IfOk result (λ _. ledger.new.terms ≡ ledger.old.terms + 1) }
     ensures takes { IfOk result (λ _. TakesOrders leaf.now ledger.old ledger.new (λ v. of_two (zero, one) (v.before e two.0 two.1))) }
 {
-    let place = place_of(leaf.graph.edges(), e, two.0, two.1);
+    let place = place_of(e, two.0, two.1);
     let given = order_in(leaf.given.placed(e), two.0, two.1);
     ledger.take(place, given, zero, one)?;
     Ok(())

@@ -4,13 +4,20 @@ ghost use Rattle.xn_kinds.specs.Bound.{IsLeastOver};
 ghost use Rattle.xn_kinds.specs.Row.{pairs_value};
 ghost use Rattle.xn_kinds.specs.State.{InBox};
 ghost use Rattle.xn_tree.specs.Leaf.{IsLeaf, IsRowOf, IsSmall, state_in};
-ghost use Rattle.xn_tree.specs.Scale.{HasRoom, TakesPairs, pair_part, pairs_left, pairs_part, partners_part};
+ghost use Rattle.xn_tree.specs.Scale.{HasRoom, TakesPairs, pair_part, pairs_left, pairs_part, partners_part, takes_of};
 
 use crate::leaves::Leaf;
 use crate::ledgers::PairLedger;
 use crate::lists::has;
 use std::alloc::AllocError;
 use xn_kinds::Row;
+
+// What a term takes m times for 0 and for 1: whether its pair crosses in the row.
+fn term_of(crossed: bool, m: u64) -> (u64, u64)
+    ensures { result ≡ takes_of crossed m }
+{
+    if crossed { (m, 0) } else { (0, m) }
+}
 
 // What a row in which the two edges cross, or don't, says of them, m times.
 fn take_pair(
@@ -35,11 +42,9 @@ fn take_pair(
     }
     let place = e as usize * leaf.graph.edges() as usize + f as usize;
     let given = leaf.given.value(e, f);
-    if crossed {
-        ledger.take(place, given, leaf.d, m, 0)
-    } else {
-        ledger.take(place, given, leaf.d, 0, m)
-    }
+    let (zero, one) = term_of(crossed, m);
+    ledger.take(place, given, leaf.d, zero, one)?;
+    Ok(())
 }
 
 // What a row says of an edge with some later ones, m times. Its list in the row is given.

@@ -70,8 +70,8 @@ fn multipliers(parts: &[(u32, u64)]) -> u128
     ensures small { result ≤ 2 ^ 84 }
 {
     let mut sum = 0;
-    for (_, m) in parts {
-        sum += u128::from(*m);
+    for part in parts {
+        sum += u128::from(part.1);
     }
     sum
 }

@@ -1,4 +1,4 @@
-use Rattle.std.proofs.Common.{◌+◌, ◌*◌, ◌<◌, ◌≡◌, ℕ, arith, drop, get_or, length, refl}
+use Rattle.std.proofs.Common.{◌+◌, ◌*◌, ◌<◌, ◌≡◌, ◌∙◌, ℕ, ap, arith, drop, get_or, length, refl, sym}
 use Rattle.xn_kinds.specs.Row.{Values}
 use Rattle.xn_tree.specs.Leaf.{state_in}
 use Rattle.xn_tree.specs.Scale.{PairsStand, pair_part, partners_part}
@@ -23,7 +23,7 @@ loop-f-preserved c = record {
       leads_on (PairsStand g (state_in leaf) leaf.d) _ _ _ (λ v. m * partners_part g list v e later) (λ v. m * partners_part g list v e (drop i later))
       (λ v. m * pair_part g (c.has.result) v e f) (λ v. m * partners_part g list v e (drop (i + 1) later))
       c.loop-f.invariant.leads c.in_ok-take_pair.ensures.takes
-      (λ v. ?);
+      (λ v. partners_more g v m list e later i low ∙ ap (λ b. m * pair_part g b v e f + m * partners_part g list v e (drop (i + 1) later)) (sym c.has.ensures));
 }
 
 pub returns-clause-takes : goal.returns-clause-takes

@@ -1,4 +1,4 @@
-use Rattle.std.proofs.Common.{◌≡◌, ◌∙◌, ◌+◌, ◌*◌, ◌<◌, ◌≤◌, ℕ, All, ap, arith, drop, get_or, length, length-drop, refl, subst, sym}
+use Rattle.std.proofs.Common.{◌≡◌, ◌∙◌, ◌+◌, ◌*◌, ◌<◌, ◌≤◌, ℕ, List, All, ap, arith, drop, get_or, length, length-drop, refl, subst, sym}
 use Rattle.xn_kinds.specs.Row.{Values, orders_of, pairs_value}
 use Rattle.xn_tree.specs.Leaf.{state_in}
 use Rattle.xn_tree.specs.Scale.{PairsStand, partners_part}
@@ -56,6 +56,12 @@ loop-i-preserved c =
               ap (λ l. m * partners_part g l v e behind) list ∙ ap (λ ys. m * partners_part g (orders_of row e) v e ys) c.behind.ensures in
           omega (arith, less, row_more g v m (orders_of row) edges i low));
     }
+
+pub returns-clause-terms : goal.returns-clause-terms
+returns-clause-terms c =
+    let row = c.args.row.now in
+    let few : length row.edges ≤ 1000 = few_edges c.args.leaf.now.graph.now row c.requires.row c.requires.leaf.few_edges in
+    omega (arith, few, ap (length {A = ℕ}) c.as_slice-edges.ensures, c.loop-i.invariant.terms)
 
 pub returns-clause-takes : goal.returns-clause-takes
 returns-clause-takes c =

@@ -1,12 +1,21 @@
-use Rattle.std.proofs.Common.{◌≡◌, ◌∙◌, ◌+◌, ◌*◌, ◌<◌, ap, arith, get_or, length, refl, take}
+use Rattle.std.proofs.Common.{◌≡◌, ◌∙◌, ◌+◌, ◌*◌, ◌<◌, [], ap, arith, get_or, length, refl, take}
 use Rattle.std.proofs.lemmas.List.{get_or_default, take_all}
 use Rattle.xn_kinds.specs.Bound.{row_at}
 use Rattle.xn_kinds.specs.Row.{Values, pairs_value}
 use Rattle.xn_tree.specs.Leaf.{state_in}
 use Rattle.xn_tree.specs.Scale.{PairsStand, pairs_part}
-use Rattle.xn_tree.proofs.Leading.{off_more, off_same}
+use Rattle.xn_tree.proofs.Leading.{off_more, off_none, off_same}
 use Rattle.xn_tree.proofs.PairSums.{parts_more}
 use Rattle.xn_tree.proofs.pair_sums.take_rows.Goals as goal
+
+pub loop-number-init : goal.loop-number-init
+loop-number-init c =
+    let leaf = c.args.leaf.now in
+    record {
+      room = c.requires.room;
+      terms = omega (arith, c.requires.none);
+      takes = off_none (PairsStand leaf.graph.now (state_in leaf) leaf.d) _ (pairs_part leaf []) (λ v. refl);
+    }
 
 pub loop-number-preserved : goal.loop-number-preserved
 loop-number-preserved c =
@@ -17,8 +26,8 @@ loop-number-preserved c =
     let i = c.loop-number.number-index in
     let low : i < length parts = omega arith in
     let p = get_or parts i (0, 0) in
-    let row = c.index.result in
-    let row_is : row_at rows p.0 ≡ get_or rows p.0 row = get_or_default rows p.0 _ row (c.requires.leaf.are_rows i (0, 0) low) in
+    let row = get_or rows p.0 c.index-leaf-number.result in
+    let row_is : row_at rows p.0 ≡ row = get_or_default rows p.0 _ c.index-leaf-number.result (c.requires.leaf.are_rows i (0, 0) low) in
     record {
       room = c.take_row.ensures.room;
       terms = omega (arith, c.loop-number.invariant.terms, c.in_ok-take_row.ensures.terms);
