@@ -5,8 +5,8 @@ use Rattle.xn_tree.specs.Steps.{value_in}
 use Rattle.xn_tree.proofs.Changed.{counted_pair, undecided_given}
 use Rattle.xn_tree.proofs.states.Given.undecide.Goals as goal
 
-pub overflow_sub : goal.overflow_sub
-overflow_sub c =
+pub overflow_sub-self : goal.overflow_sub-self
+overflow_sub-self c =
     let v = situation_of c.self.inside.graph c.self.inside.pairs.items (lists_of c.self.inside.placed.items) c.self.inside.ones in
     let some = counted_pair v c.self.invariant c.args.e c.args.f (rw (← c.self.view_is) at c.requires.decided) in
     omega (arith, c.one_of.ensures, ap or_zero (rw (← c.self.view_is) at c.value.ensures.value), some)
