@@ -39,7 +39,7 @@ module _ (given : Option Bool) (d place : ℕ) (less two more : ℕ × ℕ) (at 
   one_more = record {
     at =
         let both : more ≡ ((at place).0 + less.0, (at place).1 + less.1) =
-            λ i. ((zero ∙ ap (λ w. w.0 + less.0) is) i, (one ∙ ap (λ w. w.1 + less.1) is) i) in
+        λ i. ((zero ∙ ap (λ w. w.0 + less.0) is) i, (one ∙ ap (λ w. w.1 + less.1) is) i) in
         put ∙ ap (with_weights at place) both;
     change =
         let gap : change ≡ next -ℤ sum = omega (arith, ints, added) in

@@ -37,8 +37,8 @@ module _ (h k : ℕ → ℕ → ℕ) (e f : ℕ) (same : (a b : ℕ) → (a ≡ 
   all_in a (suc n) low rises high = elim (cases_eq a e) [
     | inl here ↦
         let first : total (k a) (range_with_len (a + 1) n) + h e f ≡ total (h a) (range_with_len (a + 1) n) + k e f =
-            ap (λ x. total (k x) (range_with_len (a + 1) n) + h e f) here ∙ row_in (a + 1) n (omega (arith, here, rises)) (omega (arith, high))
-            ∙ ap (λ x. total (h x) (range_with_len (a + 1) n) + k e f) (sym here) in
+        ap (λ x. total (k x) (range_with_len (a + 1) n) + h e f) here ∙ row_in (a + 1) n (omega (arith, here, rises)) (omega (arith, high))
+        ∙ ap (λ x. total (h x) (range_with_len (a + 1) n) + k e f) (sym here) in
         omega (arith, first, all_past (a + 1) n (omega (arith, here)))
     | inr other ↦ omega (arith, row_other a other (range_with_len (a + 1) n), all_in (a + 1) n (omega (arith, low, other)) rises (omega (arith, high)))
   ]

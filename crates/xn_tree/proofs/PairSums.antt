@@ -104,8 +104,8 @@ module _ (g : Graph) (s : State) where
         values_of s,
         values_in_box s,
         let same : crossings_in g (values_of s) ≡ ones_given g s = refl in
-        let scaled = ap (λ x. d * x) same in
-        omega (arith, ints, sum, scaled),
+            let scaled = ap (λ x. d * x) same in
+            omega (arith, ints, sum, scaled),
       );
     };
     weigh = λ e f rises below apart.
@@ -113,7 +113,7 @@ module _ (g : Graph) (s : State) where
         (sym (ap (λ at. at (pair_place (length g.ends) e f)) none)) (record {
           moved = λ v n box allows.
               let more : crossings_in g (with_cross v e f n) + v.crosses e f ≡ crossings_in g v + n =
-                  put_one v e f rises below apart n in
+              put_one v e f rises below apart n in
               let scaled = ap (λ x. d * x) more in
               omega (arith, ints, scaled, of_two_none (v.crosses e f), of_two_none n);
         });
@@ -124,7 +124,7 @@ module _ (g : Graph) (s : State) where
       put_one v e f rises below apart n =
           let here : (with_cross v e f n).crosses e f ≡ n = rw (eq-eqb e e refl, eq-eqb f f refl) refl in
           let changed = pair_changed g e f rises below apart v.crosses (with_cross v e f n).crosses
-              (λ a b other. cond-false _ _ _ (not_here a b other)) in
+          (λ a b other. cond-false _ _ _ (not_here a b other)) in
           omega (arith, changed, here)
         where
           not_here : (a b : ℕ) → (a ≡ e → b ≡ f → ⊥) → (eqb a e && eqb b f) ≡ false

@@ -48,11 +48,11 @@ module _ (slots : List ℕ) (entries : List Entry) (new : Entry) where
       | inl same ↦
           let k = get_or slots new.place 0 in
           let now : kept_at slots (set entries k new) p ≡ (0, 0) =
-              ap (λ j. says p (get_or (set entries k new) j (none_of p))) same ∙ ap (says p) (get_or-set_same entries k new (none_of p) within)
-              ∙ says_other p new (λ e. other (sym e)) in
+          ap (λ j. says p (get_or (set entries k new) j (none_of p))) same ∙ ap (says p) (get_or-set_same entries k new (none_of p) within)
+          ∙ says_other p new (λ e. other (sym e)) in
           let was : kept_at slots entries p ≡ (0, 0) =
-              ap (λ j. says p (get_or entries j (none_of p))) same ∙ ap (says p) (get_or_default entries k (none_of p) new within)
-              ∙ says_other p (get_or entries k new) (λ e. other (sym e ∙ own)) in
+          ap (λ j. says p (get_or entries j (none_of p))) same ∙ ap (says p) (get_or_default entries k (none_of p) new within)
+          ∙ says_other p (get_or entries k new) (λ e. other (sym e ∙ own)) in
           now ∙ sym was
       | inr apart ↦ ap (says p) (get_or-set_other entries (get_or slots new.place 0) (get_or slots p 0) new (none_of p) apart)
     ])
@@ -68,14 +68,14 @@ module _ (slots : List ℕ) (entries : List Entry) (new : Entry) where
   push_at p within = elim (cases_eq p new.place) [
     | inl here ↦
         let slot : get_or (set slots new.place (length entries)) p 0 ≡ length entries =
-            ap (λ q. get_or (set slots new.place (length entries)) q 0) here ∙ get_or-set_same slots new.place (length entries) 0 within in
+        ap (λ q. get_or (set slots new.place (length entries)) q 0) here ∙ get_or-set_same slots new.place (length entries) 0 within in
         rw (eq-eqb p new.place here)
         (ap (λ j. says p (get_or (entries ++ new ∷ []) j (none_of p))) slot ∙ ap (says p) (get_or_push entries new (none_of p) (length entries) refl)
         ∙ says_here p new (sym here))
     | inr other ↦
         let slot : get_or (set slots new.place (length entries)) p 0 ≡ get_or slots p 0 = get_or-set_other slots new.place p (length entries) 0 other in
         let from : kept_at (set slots new.place (length entries)) (entries ++ new ∷ []) p ≡ says p (get_or (entries ++ new ∷ []) (get_or slots p 0) (none_of p)) =
-            ap (λ j. says p (get_or (entries ++ new ∷ []) j (none_of p))) slot in
+        ap (λ j. says p (get_or (entries ++ new ∷ []) j (none_of p))) slot in
         rw (ne_eqb p new.place other) (from ∙ elim (cases_lt (get_or slots p 0) (length entries)) [
           | inl low ↦ ap (says p) (get_or_append_left entries (new ∷ []) (none_of p) (get_or slots p 0) low)
           | inr high ↦ past_end p other high ∙ sym (kept-past slots entries p high)

@@ -36,10 +36,10 @@ module _ (s : State) (given : Option Bool) (val : Values → ℕ) (put : Values 
       IsLeastOver (InBox s) (λ v. number v -ℤ pos (less v)) new.sum
   least_after least weighs =
       let moves : Moves s number (λ v. number v -ℤ pos (less v)) (new.sum -ℤ old.sum) =
-          moves_by s given val put variable number (λ v. number v -ℤ pos (less v))
-          (weight d (old.at place)) (λ x. weight d (old.at place) x -ℤ pos (of_two two x)) weighs
-          (λ v box. omega (arith, ints, is v box))
-          takes.change.before takes.change.after (new.sum -ℤ old.sum) takes.change.is_before takes.change.is_after takes.change.gap in
+      moves_by s given val put variable number (λ v. number v -ℤ pos (less v))
+      (weight d (old.at place)) (λ x. weight d (old.at place) x -ℤ pos (of_two two x)) weighs
+      (λ v box. omega (arith, ints, is v box))
+      takes.change.before takes.change.after (new.sum -ℤ old.sum) takes.change.is_before takes.change.is_after takes.change.gap in
       let sum : old.sum +ℤ (new.sum -ℤ old.sum) ≡ new.sum = omega (arith, ints) in
       subst (IsLeastOver (InBox s) (λ v. number v -ℤ pos (less v))) sum (moves old.sum least)
 
@@ -96,9 +96,9 @@ module _ (g : Graph) (s : State) (d m e f : ℕ) (rises : e < f) (below : f < le
           | inl same ↦
               let parts : (eqb a e ≡ true) × (eqb b f ≡ true) = and_parts _ _ same in
               let Here : ℕ → ℕ → Type 0 = λ p q. Weighs s (s.decided p q) (λ v. v.crosses p q) (λ v n. with_cross v p q n)
-                  (λ v. number v -ℤ pos (less v)) (weight d (weights_of new.places (pair_place (length g.ends) p q))) in
+              (λ v. number v -ℤ pos (less v)) (weight d (weights_of new.places (pair_place (length g.ends) p q))) in
               let own : Here e f = weighs_after s (s.decided e f) (λ v. v.crosses e f) (λ v n. with_cross v e f n) (crosses_variable s e f) d
-                  (pair_place (length g.ends) e f) (takes_of crossed m) (account_of old) (account_of new) takes number less is here in
+              (pair_place (length g.ends) e f) (takes_of crossed m) (account_of old) (account_of new) takes number less is here in
               subst (λ (p : ℕ). Here p b) (sym (eqb-true a e parts.0)) (subst (λ (q : ℕ). Here e q) (sym (eqb-true b f parts.1)) own)
           | inr other ↦
               others_after s (s.decided e f) (λ v. v.crosses e f) (λ v n. with_cross v e f n) (crosses_variable s e f) d
@@ -113,7 +113,7 @@ module _ (g : Graph) (s : State) (d m e f : ℕ) (rises : e < f) (below : f < le
   pub pair_taken : TakesOff (PairsStand g s d) old new (λ v. m * pair_part g crossed v e f)
   pair_taken number stands =
       let is : (v : Values) → number v -ℤ pos (m * term_at crossed (v.crosses e f)) ≡ number v -ℤ pos (m * pair_part g crossed v e f) =
-          λ v. ap (λ x. number v -ℤ pos (m * x)) (sym (rw apart refl)) in
+      λ v. ap (λ x. number v -ℤ pos (m * x)) (sym (rw apart refl)) in
       subst (PairsStand g s d new) (λ i v. is v i) (term_taken number stands)
 
 -- the same, as a call finds it
@@ -134,7 +134,7 @@ pub pair_none : (g : Graph) (s : State) (d m e f : ℕ) (crossed : Bool) (old : 
     TakesOff (PairsStand g s d) old old (λ v. m * pair_part g crossed v e f)
 pair_none g s d m e f crossed old meet number stands =
     let is : (v : Values) → number v ≡ number v -ℤ pos (m * pair_part g crossed v e f) = λ v.
-        let none : pair_part g crossed v e f ≡ 0 = rw meet refl in
-        let scaled : m * pair_part g crossed v e f ≡ m * 0 = ap (λ x. m * x) none in
-        omega (arith, ints, scaled) in
+    let none : pair_part g crossed v e f ≡ 0 = rw meet refl in
+    let scaled : m * pair_part g crossed v e f ≡ m * 0 = ap (λ x. m * x) none in
+    omega (arith, ints, scaled) in
     subst (PairsStand g s d old) (λ i v. is v i) stands

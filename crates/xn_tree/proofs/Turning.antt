@@ -54,9 +54,9 @@ module _ (g : Graph) (s : State) (few : length g.ends ≤ 1000) (e f h : ℕ) (r
               let parts : (eqb a e ≡ true) × ((eqb b f && eqb c h) ≡ true) = and_parts _ _ same in
               let more : (eqb b f ≡ true) × (eqb c h ≡ true) = and_parts _ _ parts.1 in
               let Here : ℕ → ℕ → ℕ → Type 0 = λ p q t. Weighs s (order_given (s.placed p) q t) (λ v. v.before p q t) (λ v n. with_before v p q t n)
-                  (λ v. number v -ℤ pos (less v)) (weight 0 (mapped new.entries (order_place p q t))) in
+              (λ v. number v -ℤ pos (less v)) (weight 0 (mapped new.entries (order_place p q t))) in
               let own : Here e f h = weighs_after s (order_given (s.placed e) f h) (λ v. v.before e f h) (λ v n. with_before v e f h n) (before_variable s e f h) 0
-                  (order_place e f h) two (account_of_orders old) (account_of_orders new) takes number less is here in
+              (order_place e f h) two (account_of_orders old) (account_of_orders new) takes number less is here in
               subst (λ (p : ℕ). Here p b c) (sym (eqb-true a e parts.0)) (subst (λ (q : ℕ). Here e q c) (sym (eqb-true b f more.0))
               (subst (λ (t : ℕ). Here e f t) (sym (eqb-true c h more.1)) own))
           | inr other ↦
@@ -113,8 +113,8 @@ list_more v m e i list first low =
     let is : suc (i - 1) ≡ i = omega (arith, first) in
     let next : suc (suc (i - 1)) ≡ i + 1 = omega (arith, first) in
     let more : turns_along v e (take (i + 1) list) ≡ turns_along v e (take i list) + (1 - literal v e (get_or list (i - 1) 0) (get_or list i 0)) =
-        ap (λ k. turns_along v e (take k list)) (sym next) ∙ turns-more v e (i - 1) list (omega (arith, low, first))
-        ∙ ap (λ k. turns_along v e (take k list) + (1 - literal v e (get_or list (i - 1) 0) (get_or list k 0))) is in
+    ap (λ k. turns_along v e (take k list)) (sym next) ∙ turns-more v e (i - 1) list (omega (arith, low, first))
+    ∙ ap (λ k. turns_along v e (take k list) + (1 - literal v e (get_or list (i - 1) 0) (get_or list k 0))) is in
     let scaled = ap (λ x. m * x) more in
     omega (arith, scaled)
 
@@ -145,7 +145,7 @@ orders_start g s kept none sum = record {
   least = least_of_one s (λ v. pos 0) kept.sum (λ v. omega (arith, ints, sum));
   weigh = λ e f h rises below.
       subst (λ (es : List (ℕ × (ℕ × ℕ))). Weighs s (order_given (s.placed e) f h) (λ v. v.before e f h) (λ v n. with_before v e f h n) (λ v. pos 0)
-        (weight 0 (mapped es (order_place e f h))))
+      (weight 0 (mapped es (order_place e f h))))
       (sym none) (record {
         moved = λ v n box allows. omega (arith, ints, of_two_none (v.before e f h), of_two_none n);
       });

@@ -37,7 +37,8 @@ impl PairLedger {
         }
     }
 
-    /// Makes room for so many places, where it hasn't just that, and nothing is taken then. After want of memory it is as before.
+    /// Makes room for so many places, where it hasn't just that, and nothing is taken then. After want of memory it is
+    /// as before.
     pub fn fit(&mut self, alloc: Global, room: usize) -> Result<(), AllocError>
         ensures { IfOk result (λ _. room_of self.new.places ≡ room) }
     {
@@ -71,8 +72,8 @@ impl PairLedger {
         self.sum
     }
 
-    /// Takes more of a place, which gives d where its variable is 1: so much where that is 0, and so much where it is 1. After
-    /// want of memory the ledger is of no use.
+    /// Takes more of a place, which gives d where its variable is 1: so much where that is 0, and so much where it is 1.
+    /// After want of memory the ledger is of no use.
     pub fn take(
         &mut self,
         place: usize,

@@ -36,7 +36,8 @@ fn take_order(
     requires below { two.1 < length leaf.now.graph.now.ends }
     requires few { ledger.old.terms < 2 ^ 40 }
     ensures terms { IfOk result (λ _. ledger.new.terms ≡ ledger.old.terms + 1) }
-    ensures takes { IfOk result (λ _. TakesOrders leaf.now ledger.old ledger.new (λ v. of_two (zero, one) (v.before e two.0 two.1))) }
+    ensures takes { IfOk result (λ _.
+        TakesOrders leaf.now ledger.old ledger.new (λ v. of_two (zero, one) (v.before e two.0 two.1))) }
 {
     let place = place_of(e, two.0, two.1);
     let given = order_in(leaf.given.placed(e), two.0, two.1);
@@ -92,12 +93,7 @@ fn take_list(
 }
 
 // What a row says of its orders, m times.
-fn take_row(
-    ledger: &mut OrderLedger,
-    leaf: &Leaf,
-    m: u64,
-    row: &Row,
-) -> Result<(), AllocError>
+fn take_row(ledger: &mut OrderLedger, leaf: &Leaf, m: u64, row: &Row) -> Result<(), AllocError>
     requires leaf { IsLeaf leaf.now }
     requires row { IsRowOf leaf.now.graph.now row.now }
     requires few { ledger.old.terms + 1000000 ≤ 2 ^ 40 }

@@ -34,7 +34,8 @@ fn take_pair(
     requires few { ledger.old.terms < 2 ^ 40 }
     ensures room { HasRoom leaf.now.graph.now ledger.new }
     ensures terms { IfOk result (λ _. ledger.new.terms ≤ ledger.old.terms + 1) }
-    ensures takes { IfOk result (λ _. TakesPairs leaf.now ledger.old ledger.new (λ v. m * pair_part leaf.now.graph.now crossed v pair.0 pair.1)) }
+    ensures takes { IfOk result (λ _.
+        TakesPairs leaf.now ledger.old ledger.new (λ v. m * pair_part leaf.now.graph.now crossed v pair.0 pair.1)) }
 {
     let (e, f) = pair;
     if !leaf.graph.independent(e, f) {
@@ -62,7 +63,8 @@ fn take_partners(
     requires few { ledger.old.terms + length later.now ≤ 2 ^ 40 }
     ensures room { HasRoom leaf.now.graph.now ledger.new }
     ensures terms { IfOk result (λ _. ledger.new.terms ≤ ledger.old.terms + length later.now) }
-    ensures takes { IfOk result (λ _. TakesPairs leaf.now ledger.old ledger.new (λ v. m * partners_part leaf.now.graph.now list.now v e later.now)) }
+    ensures takes { IfOk result (λ _.
+        TakesPairs leaf.now ledger.old ledger.new (λ v. m * partners_part leaf.now.graph.now list.now v e later.now)) }
 {
     for f in later {
         take_pair(ledger, leaf, m, (e, *f), has(list, *f))?;
@@ -78,7 +80,8 @@ fn take_row(ledger: &mut PairLedger, leaf: &Leaf, m: u64, row: &Row) -> Result<(
     requires few { ledger.old.terms + 1000000 ≤ 2 ^ 40 }
     ensures room { HasRoom leaf.now.graph.now ledger.new }
     ensures terms { IfOk result (λ _. ledger.new.terms ≤ ledger.old.terms + 1000000) }
-    ensures takes { IfOk result (λ _. TakesPairs leaf.now ledger.old ledger.new (λ v. m * pairs_value leaf.now.graph.now row.now v)) }
+    ensures takes { IfOk result (λ _.
+        TakesPairs leaf.now ledger.old ledger.new (λ v. m * pairs_value leaf.now.graph.now row.now v)) }
 {
     let edges = row.edges.as_slice();
     for i in 0..edges.len() {

@@ -13,8 +13,8 @@ use std::alloc::{AllocError, Global};
 use xn_graph::Graph;
 use xn_kinds::Row;
 
-/// Weighs the leaves of proof trees, each in the time of the rows of its parts. It keeps nothing from one leaf to the next but its
-/// room.
+/// Weighs the leaves of proof trees, each in the time of the rows of its parts. It keeps nothing from one leaf to the
+/// next but its room.
 #[derive(Drop)]
 pub struct Scale {
     pairs: PairLedger,
@@ -30,8 +30,8 @@ impl Scale {
 
     /// The bound of a leaf, as `bound` gives it, in the time of the rows of its parts.
     ///
-    /// For a graph with another number of edges than that of the leaf before it takes room for every pair first. It fails only
-    /// for want of memory, and may be called again after that.
+    /// For a graph with another number of edges than that of the leaf before it takes room for every pair first. It fails
+    /// only for want of memory, and may be called again after that.
     pub fn bound(
         &mut self,
         alloc: Global,
@@ -71,7 +71,15 @@ fn multipliers(parts: &[(u32, u64)]) -> u128
 {
     let mut sum = 0;
     for part in parts {
-        sum += u128::from(part.1);
+        sum += wide(part.1);
     }
     sum
+}
+
+// The same number in 128 bits.
+fn wide(m: u64) -> u128
+    ensures value { result ≡ m }
+    ensures small { result < 2 ^ 64 }
+{
+    u128::from(m)
 }

@@ -13,8 +13,8 @@ struct Entry {
     one: u128,
 }
 
-/// Two numbers for each place, at first zeros. To empty it takes the time of the places that were used at most: what a slot
-/// leads to counts only where it is an entry of this very place.
+/// Two numbers for each place, at first zeros. To empty it takes the time of the places that were used at most: what a
+/// slot leads to counts only where it is an entry of this very place.
 #[derive(Drop)]
 pub struct PlaceTable {
     slots: Vec<usize>,

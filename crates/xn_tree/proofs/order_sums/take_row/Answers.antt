@@ -8,9 +8,18 @@ use Rattle.xn_tree.specs.Leaf.{state_in, turns_along}
 use Rattle.xn_tree.specs.Scale.{OrdersStand}
 use Rattle.xn_tree.proofs.Additions.{few_edges, short_list}
 use Rattle.xn_tree.proofs.Edges.{order_at-found}
-use Rattle.xn_tree.proofs.Leading.{off_more, off_same}
+use Rattle.xn_tree.proofs.Leading.{off_more, off_none, off_same}
 use Rattle.xn_tree.proofs.Turning.{list_below, row_turns_more}
 use Rattle.xn_tree.proofs.order_sums.take_row.Goals as goal
+
+pub loop-i-init : goal.loop-i-init
+loop-i-init c =
+    let leaf = c.args.leaf.now in
+    record {
+      terms = omega arith;
+      takes = off_none (OrdersStand leaf.graph.now (state_in leaf)) _
+          (λ v. c.args.m * total (λ x. turns_along v x (orders_of c.args.row.now x)) (take 0 c.as_slice-edges.result.now)) (λ v. omega arith);
+    }
 
 pub take_list-requires-clause-no_repeats : goal.take_list-requires-clause-no_repeats
 take_list-requires-clause-no_repeats c =
@@ -57,7 +66,7 @@ loop-i-preserved c =
     let e = get_or edges i 0 in
     let same : get_or row.edges i 0 ≡ e = sym (ap (λ xs. get_or xs i 0) is_edges) in
     let list : c.at.result.now ≡ orders_of row e =
-        c.at.ensures ∙ order_at-found row.edges row.orders i e c.requires.row.orders.edge_list.rise c.requires.row.lists_fit (omega (arith, low, long), same) in
+    c.at.ensures ∙ order_at-found row.edges row.orders i e c.requires.row.orders.edge_list.rise c.requires.row.lists_fit (omega (arith, low, long), same) in
     record {
       terms = omega (arith, ap (length {A = ℕ}) list, short_list g row c.requires.row c.requires.leaf.few_edges e, c.loop-i.invariant.terms, c.in_ok-take_list.ensures.terms);
       takes = off_more (OrdersStand g (state_in leaf)) _ _ _ (λ v. m * total (λ x. turns_along v x (orders_of row x)) (take i edges))

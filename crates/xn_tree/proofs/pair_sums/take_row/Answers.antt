@@ -42,7 +42,7 @@ loop-i-preserved c =
     let e = get_or edges i 0 in
     let same : get_or row.edges i 0 ≡ e = sym (ap (λ xs. get_or xs i 0) is_edges) in
     let list : c.at.result.now ≡ orders_of row e =
-        c.at.ensures ∙ order_at-found row.edges row.orders i e c.requires.row.orders.edge_list.rise c.requires.row.lists_fit (omega (arith, low, long), same) in
+    c.at.ensures ∙ order_at-found row.edges row.orders i e c.requires.row.orders.edge_list.rise c.requires.row.lists_fit (omega (arith, low, long), same) in
     let behind = c.behind.result.now in
     record {
       room = c.take_partners.ensures.room;
@@ -53,7 +53,7 @@ loop-i-preserved c =
           c.loop-i.invariant.leads c.in_ok-take_partners.ensures.takes
           (λ v.
           let less : m * partners_part g c.at.result.now v e behind ≡ m * partners_part g (orders_of row e) v e (drop (i + 1) edges) =
-              ap (λ l. m * partners_part g l v e behind) list ∙ ap (λ ys. m * partners_part g (orders_of row e) v e ys) c.behind.ensures in
+          ap (λ l. m * partners_part g l v e behind) list ∙ ap (λ ys. m * partners_part g (orders_of row e) v e ys) c.behind.ensures in
           omega (arith, less, row_more g v m (orders_of row) edges i low));
     }
 

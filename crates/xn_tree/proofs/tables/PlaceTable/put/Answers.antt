@@ -12,5 +12,5 @@ returns-clause-ok c =
     let next = c.len-next.result in
     let long : next ≡ length entries = omega (arith, c.len-next.ensures, c.self.inside.entries.ok.0) in
     let pushed : kept_at (set slots c.args.place next) c.push.new.self.items ≡ kept_at (set slots c.args.place (length entries)) (entries ++ new ∷ []) =
-        ap (kept_at (set slots c.args.place next)) c.in_ok-push.ensures.items ∙ ap (λ k. kept_at (set slots c.args.place k) (entries ++ new ∷ [])) long in
+    ap (kept_at (set slots c.args.place next)) c.in_ok-push.ensures.items ∙ ap (λ k. kept_at (set slots c.args.place k) (entries ++ new ∷ [])) long in
     rw (← c.self.view_is) (pushed ∙ kept-push slots entries new (rw (← c.self.view_is) at c.requires))
