@@ -72,8 +72,8 @@ impl PairLedger {
         self.sum
     }
 
-    /// Takes more of a place, which gives d where its variable is 1: so much where that is 0, and so much where it is 1.
-    /// After want of memory the ledger is of no use.
+    /// Takes more of a place, which gives d where its variable is 1: so much where that is 0, and so much where it is
+    /// 1. After want of memory the ledger is of no use.
     pub fn take(
         &mut self,
         place: usize,

@@ -30,8 +30,8 @@ impl Scale {
 
     /// The bound of a leaf, as `bound` gives it, in the time of the rows of its parts.
     ///
-    /// For a graph with another number of edges than that of the leaf before it takes room for every pair first. It fails
-    /// only for want of memory, and may be called again after that.
+    /// For a graph with another number of edges than that of the leaf before it takes room for every pair first. It
+    /// fails only for want of memory, and may be called again after that.
     pub fn bound(
         &mut self,
         alloc: Global,
