@@ -10,7 +10,6 @@ mod lists;
 mod order_ledgers;
 mod order_sums;
 mod pair_sums;
-mod probe;
 mod scales;
 mod states;
 mod tables;
@@ -20,7 +19,6 @@ mod turns;
 mod walks;
 
 pub use bounds::bound;
-pub use probe::tried;
 pub use scales::Scale;
 pub use states::Given;
 pub use walks::{Choice, TreeWalk};
