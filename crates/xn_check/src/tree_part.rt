@@ -110,7 +110,14 @@ impl TreePart {
             (RefusesLine number (StepFails self.old.walk.graph lower rows.now (pending_of self.old.walk) self.old.nodes node.now)) }
     {
         match node {
-            Node::Leaf { d, parts } => self.test_leaf(alloc, number, lower, rows, *d, parts.as_slice()),
+            Node::Leaf { d, parts } => self.test_leaf(
+                alloc,
+                number,
+                lower,
+                rows,
+                *d,
+                parts.as_slice(),
+            ),
             _ => Ok(()),
         }
     }
@@ -159,14 +166,7 @@ impl TreePart {
         ensures same { self.new ≡ self.old }
         ensures bound { IfOk result (λ b. (t : State) (rest : List State) → pending_of self.old.walk ≡ t ∷ rest → IsBound self.old.walk.graph rows.now t d parts.now b) }
     {
-        self.scale.bound(
-            alloc,
-            self.walk.graph(),
-            self.walk.given(),
-            rows,
-            parts,
-            d,
-        )
+        self.scale.bound(alloc, self.walk.graph(), self.walk.given(), rows, parts, d)
     }
 
     // The line doesn't go on with the tree.
