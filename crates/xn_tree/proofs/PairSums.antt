@@ -27,17 +27,17 @@ abbrev pub row_part : Graph → (ℕ → List ℕ) → Values → List ℕ → �
 row_part g ord v es = each_two_sum (λ e f. pair_part g (has (ord e) f) v e f) es
 
 module _ (g : Graph) (v : Values) (m : ℕ) where
-  pub partners_more : (list : List ℕ) (e : ℕ) (later : List ℕ) (i : ℕ) → i < length later →
-      m * partners_part g list v e (drop i later)
-      ≡ m * pair_part g (has list (get_or later i 0)) v e (get_or later i 0) + m * partners_part g list v e (drop (i + 1) later)
-  partners_more list e later i low =
-      let next = at_drop_more (partners_part g list v e) later i 0 low in
+  pub partners_more : (crossed : ℕ → Bool) (e : ℕ) (later : List ℕ) (i : ℕ) → i < length later →
+      m * partners_part g crossed v e (drop i later)
+      ≡ m * pair_part g (crossed (get_or later i 0)) v e (get_or later i 0) + m * partners_part g crossed v e (drop (i + 1) later)
+  partners_more crossed e later i low =
+      let next = at_drop_more (partners_part g crossed v e) later i 0 low in
       let scaled = ap (λ x. m * x) next in
       omega (arith, scaled)
 
   pub row_more : (ord : ℕ → List ℕ) (es : List ℕ) (i : ℕ) → i < length es →
       m * row_part g ord v (drop i es)
-      ≡ m * partners_part g (ord (get_or es i 0)) v (get_or es i 0) (drop (i + 1) es) + m * row_part g ord v (drop (i + 1) es)
+      ≡ m * partners_part g (has (ord (get_or es i 0))) v (get_or es i 0) (drop (i + 1) es) + m * row_part g ord v (drop (i + 1) es)
   row_more ord es i low =
       let next = at_drop_more (row_part g ord v) es i 0 low in
       let scaled = ap (λ x. m * x) next in

@@ -1,8 +1,8 @@
 -- A scale: what was taken of each place of a table, and the least that a number has after that.
-use Rattle.std.specs.Prelude.{◌≡◌, ℕ, ◌+◌, ◌-◌, ◌*◌, ◌^◌, ◌<◌, ◌≤◌, ◌==◌, ℤ, pos, ◌+ℤ◌, ◌-ℤ◌, Bool, List, Option, length, nat_eq, slice_index_or, unwrap_or, if◌then◌else◌}
+use Rattle.std.specs.Prelude.{◌≡◌, ℕ, ◌+◌, ◌-◌, ◌*◌, ◌^◌, ◌<◌, ◌≤◌, ◌==◌, ℤ, pos, ◌+ℤ◌, ◌-ℤ◌, Bool, List, Option, length, nat_eq, nat_lt, slice_index_or, unwrap_or, if◌then◌else◌}
 use Rattle.std.specs.Map.{lookup}
 use Rattle.xn_model.specs.Graph.{Graph, Independent, independent}
-use Rattle.xn_model.specs.Lists.{has, total}
+use Rattle.xn_model.specs.Lists.{has, position_in, total}
 use Rattle.xn_kinds.specs.Bound.{IsLeastOver, crossings_in, row_at}
 use Rattle.xn_kinds.specs.Row.{Values, pairs_value, turns_value}
 use Rattle.xn_kinds.specs.State.{InBox, State}
@@ -29,6 +29,18 @@ abbrev pub kept_at : List ℕ → List Entry → Weights
 kept_at slots entries place =
     let entry = slice_index_or entries (slice_index_or slots place 0) (record { place = place; zero = 0; one = 0 }) in
     if entry.place == place then (entry.zero, entry.one) else (0, 0)
+
+-- the position of an element from 1 on, or 0
+abbrev pub place_in : List ℕ → ℕ → ℕ
+place_in xs f = if has xs f then position_in xs f + 1 else 0
+
+-- the notes say of each number where it stands in the list
+abbrev pub AreNotesOf : List ℕ → List ℕ → Type 0
+AreNotesOf notes xs = (f : ℕ) → slice_index_or notes f 0 ≡ place_in xs f
+
+-- whether they say that it stands there
+abbrev pub noted : List ℕ → ℕ → Bool
+noted notes f = nat_lt 0 (slice_index_or notes f 0)
 
 -- a table, as its slots and its entries
 pub record Places : Type 0 where
@@ -97,9 +109,9 @@ takes_of crossed m = if crossed then (m, 0) else (0, m)
 abbrev pub pair_part : Graph → Bool → Values → ℕ → ℕ → ℕ
 pair_part g crossed v e f = if independent g.ends e f then term_at crossed (v.crosses e f) else 0
 
--- those of an edge, whose list in the row is given, with each of some edges
-abbrev pub partners_part : Graph → List ℕ → Values → ℕ → List ℕ → ℕ
-partners_part g list v e fs = total (λ f. pair_part g (has list f) v e f) fs
+-- those of an edge with each of some edges, of which it is given which cross it in the row
+abbrev pub partners_part : Graph → (ℕ → Bool) → Values → ℕ → List ℕ → ℕ
+partners_part g crossed v e fs = total (λ f. pair_part g (crossed f) v e f) fs
 
 -- the sum is the least of the number, and each independent pair weighs in it what is kept of its place
 pub record PairsStand (g : Graph) (s : State) (d : ℕ) (kept : PairsKept) (number : Values → ℤ) : Type 0 where

@@ -1,15 +1,17 @@
 // What the rows of a leaf say of the pairs, taken row by row.
-ghost use Rattle.std.specs.Prelude.{◌≡◌, ◌+◌, ◌*◌, ◌<◌, ◌≤◌, ◌^◌, All, IfOk, drop, length, pos};
+ghost use Rattle.std.specs.Prelude.{◌≡◌, ◌+◌, ◌*◌, ◌<◌, ◌≤◌, ◌^◌, All, IfOk, [], drop, length, nat_eq, pos};
+ghost use Rattle.std.specs.List.{IsDistinct};
+ghost use Rattle.xn_model.specs.Lists.{has};
 ghost use Rattle.xn_kinds.specs.Bound.{IsLeastOver};
 ghost use Rattle.xn_kinds.specs.Row.{pairs_value};
 ghost use Rattle.xn_kinds.specs.State.{InBox};
 ghost use Rattle.xn_tree.specs.Leaf.{IsLeaf, IsRowOf, IsSmall, state_in};
-ghost use Rattle.xn_tree.specs.Scale.{HasRoom, TakesPairs, pair_part, pairs_left, pairs_part, partners_part, takes_of};
+ghost use Rattle.xn_tree.specs.Scale.{AreNotesOf, HasRoom, TakesPairs, noted, pair_part, pairs_left, pairs_part, partners_part, takes_of};
 
 use crate::leaves::Leaf;
 use crate::ledgers::PairLedger;
-use crate::lists::has;
-use std::alloc::AllocError;
+use crate::notes::{erase, note};
+use std::alloc::{AllocError, Global};
 use xn_kinds::Row;
 
 // What a term takes m times for 0 and for 1: whether its pair crosses in the row.
@@ -47,9 +49,34 @@ fn take_pair(
     Ok(())
 }
 
-// What a row says of an edge with some later ones, m times. Its list in the row is given.
+// What a row says of an edge with some later ones, m times. The notes are those of its list in the row.
 fn take_partners(
     ledger: &mut PairLedger,
+    notes: &[u32],
+    leaf: &Leaf,
+    m: u64,
+    e: u32,
+    later: &[u32],
+) -> Result<(), AllocError>
+    requires leaf { IsLeaf leaf.now }
+    requires room { HasRoom leaf.now.graph.now ledger.old }
+    requires long { length notes.now ≡ length leaf.now.graph.now.ends }
+    requires later { All (λ f. (e < f) × (f < length leaf.now.graph.now.ends)) later.now }
+    requires few { ledger.old.terms + length later.now ≤ 2 ^ 40 }
+    ensures room { HasRoom leaf.now.graph.now ledger.new }
+    ensures terms { IfOk result (λ _. ledger.new.terms ≤ ledger.old.terms + length later.now) }
+    ensures takes { IfOk result (λ _. TakesPairs leaf.now ledger.old ledger.new (λ v. m * partners_part leaf.now.graph.now (noted notes.now) v e later.now)) }
+{
+    for f in later {
+        take_pair(ledger, leaf, m, (e, *f), notes[*f as usize] > 0)?;
+    }
+    Ok(())
+}
+
+// The same, with its list in the row given. Nothing is noted before or after.
+fn take_edge(
+    ledger: &mut PairLedger,
+    notes: &mut [u32],
     leaf: &Leaf,
     m: u64,
     e: u32,
@@ -58,32 +85,50 @@ fn take_partners(
 ) -> Result<(), AllocError>
     requires leaf { IsLeaf leaf.now }
     requires room { HasRoom leaf.now.graph.now ledger.old }
+    requires long { length notes.old ≡ length leaf.now.graph.now.ends }
+    requires none { AreNotesOf notes.old [] }
+    requires list { All (λ f. f < length leaf.now.graph.now.ends) list.now }
+    requires no_repeats { IsDistinct nat_eq list.now }
+    requires short { length list.now ≤ 1000 }
     requires later { All (λ f. (e < f) × (f < length leaf.now.graph.now.ends)) later.now }
     requires few { ledger.old.terms + length later.now ≤ 2 ^ 40 }
     ensures room { HasRoom leaf.now.graph.now ledger.new }
+    ensures long { length notes.new ≡ length notes.old }
+    ensures none { AreNotesOf notes.new [] }
     ensures terms { IfOk result (λ _. ledger.new.terms ≤ ledger.old.terms + length later.now) }
-    ensures takes { IfOk result (λ _. TakesPairs leaf.now ledger.old ledger.new (λ v. m * partners_part leaf.now.graph.now list.now v e later.now)) }
+    ensures takes { IfOk result (λ _. TakesPairs leaf.now ledger.old ledger.new (λ v. m * partners_part leaf.now.graph.now (has list.now) v e later.now)) }
 {
-    for f in later {
-        take_pair(ledger, leaf, m, (e, *f), has(list, *f))?;
-    }
-    Ok(())
+    note(notes, list);
+    let result = take_partners(ledger, notes, leaf, m, e, later);
+    erase(notes, list);
+    result
 }
 
 // What a row says of its pairs, m times.
-fn take_row(ledger: &mut PairLedger, leaf: &Leaf, m: u64, row: &Row) -> Result<(), AllocError>
+fn take_row(
+    ledger: &mut PairLedger,
+    notes: &mut [u32],
+    leaf: &Leaf,
+    m: u64,
+    row: &Row,
+) -> Result<(), AllocError>
     requires leaf { IsLeaf leaf.now }
     requires row { IsRowOf leaf.now.graph.now row.now }
     requires room { HasRoom leaf.now.graph.now ledger.old }
+    requires long { length notes.old ≡ length leaf.now.graph.now.ends }
+    requires none { AreNotesOf notes.old [] }
     requires few { ledger.old.terms + 1000000 ≤ 2 ^ 40 }
     ensures room { HasRoom leaf.now.graph.now ledger.new }
+    ensures long { length notes.new ≡ length notes.old }
+    ensures none { AreNotesOf notes.new [] }
     ensures terms { IfOk result (λ _. ledger.new.terms ≤ ledger.old.terms + 1000000) }
     ensures takes { IfOk result (λ _. TakesPairs leaf.now ledger.old ledger.new (λ v. m * pairs_value leaf.now.graph.now row.now v)) }
 {
     let edges = row.edges.as_slice();
     for i in 0..edges.len() {
-        take_partners(
+        take_edge(
             ledger,
+            notes,
             leaf,
             m,
             edges[i],
@@ -103,14 +148,16 @@ fn behind(list: &[u32], i: usize) -> &[u32]
 }
 
 // What the rows of a leaf say of the pairs.
-fn take_rows(ledger: &mut PairLedger, leaf: &Leaf) -> Result<(), AllocError>
+fn take_rows(ledger: &mut PairLedger, notes: &mut [u32], leaf: &Leaf) -> Result<(), AllocError>
     requires leaf { IsLeaf leaf.now }
     requires room { HasRoom leaf.now.graph.now ledger.old }
+    requires long { length notes.old ≡ length leaf.now.graph.now.ends }
+    requires unnoted { AreNotesOf notes.old [] }
     requires none { ledger.old.terms ≡ 0 }
     ensures { IfOk result (λ _. TakesPairs leaf.now ledger.old ledger.new (pairs_part leaf.now leaf.now.parts.now)) }
 {
     for (number, m) in leaf.parts {
-        take_row(ledger, leaf, *m, &leaf.rows[*number as usize])?;
+        take_row(ledger, notes, leaf, *m, &leaf.rows[*number as usize])?;
     }
     Ok(())
 }
@@ -125,13 +172,14 @@ fn times(d: u64, count: u32) -> i128
 }
 
 /// The least of what all pairs of edges give to the value of a leaf. It fails only for want of memory.
-pub fn pairs_least(ledger: &mut PairLedger, leaf: &Leaf) -> Result<i128, AllocError>
+pub fn pairs_least(alloc: Global, ledger: &mut PairLedger, leaf: &Leaf) -> Result<i128, AllocError>
     requires leaf { IsLeaf leaf.now }
     requires room { HasRoom leaf.now.graph.now ledger.old }
     ensures least { IfOk result (λ b. IsLeastOver (InBox (state_in leaf.now)) (pairs_left leaf.now) b) }
     ensures small { IfOk result (IsSmall (2 ^ 40 + 1)) }
 {
+    let mut notes = vec![in alloc; 0; leaf.graph.edges() as usize]?;
     ledger.start(times(leaf.d, leaf.given.ones()));
-    take_rows(ledger, leaf)?;
+    take_rows(ledger, notes.as_mut_slice(), leaf)?;
     Ok(ledger.sum())
 }

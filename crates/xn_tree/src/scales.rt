@@ -57,7 +57,7 @@ impl Scale {
         };
         let edges = graph.edges() as usize;
         self.pairs.fit(alloc, edges * edges)?;
-        let pairs = pairs_least(&mut self.pairs, &leaf)?;
+        let pairs = pairs_least(alloc, &mut self.pairs, &leaf)?;
         let orders = orders_least(alloc, &leaf)?;
         Ok(pairs + orders + multipliers(parts) as i128)
     }

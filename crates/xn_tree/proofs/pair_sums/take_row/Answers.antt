@@ -1,15 +1,19 @@
 use Rattle.std.proofs.Common.{◌≡◌, ◌∙◌, ◌+◌, ◌*◌, ◌<◌, ◌≤◌, ℕ, List, All, ap, arith, drop, get_or, length, length-drop, refl, subst, sym}
+use Rattle.std.specs.Prelude.{nat_eq}
+use Rattle.std.specs.List.{IsDistinct}
+use Rattle.xn_model.specs.Lists.{has}
 use Rattle.xn_kinds.specs.Row.{Values, orders_of, pairs_value}
 use Rattle.xn_tree.specs.Leaf.{state_in}
 use Rattle.xn_tree.specs.Scale.{PairsStand, partners_part}
-use Rattle.xn_tree.proofs.Additions.{few_edges}
+use Rattle.xn_tree.proofs.Additions.{few_edges, short_list}
 use Rattle.xn_tree.proofs.Edges.{order_at-found}
+use Rattle.xn_tree.proofs.Additions.{list_below}
 use Rattle.xn_tree.proofs.Leading.{leads_all, leads_on, off_same}
 use Rattle.xn_tree.proofs.PairSums.{later_edges, none_left, row_all, row_more, row_part}
 use Rattle.xn_tree.proofs.pair_sums.take_row.Goals as goal
 
-pub take_partners-requires-clause-later : goal.take_partners-requires-clause-later
-take_partners-requires-clause-later c =
+pub take_edge-requires-clause-later : goal.take_edge-requires-clause-later
+take_edge-requires-clause-later c =
     let row = c.args.row.now in
     let g = c.args.leaf.now.graph.now in
     let i = c.loop-i.i in
@@ -19,8 +23,8 @@ take_partners-requires-clause-later c =
     (subst (All (λ f. (get_or row.edges i 0 < f) × (f < length g.ends))) (sym (c.behind.ensures ∙ ap (drop (i + 1)) is_edges))
     (later_edges g row c.requires.row i low))
 
-pub take_partners-requires-clause-few : goal.take_partners-requires-clause-few
-take_partners-requires-clause-few c =
+pub take_edge-requires-clause-few : goal.take_edge-requires-clause-few
+take_edge-requires-clause-few c =
     let row = c.args.row.now in
     let i = c.loop-i.i in
     let edges = c.as_slice-edges.result.now in
@@ -45,15 +49,17 @@ loop-i-preserved c =
         c.at.ensures ∙ order_at-found row.edges row.orders i e c.requires.row.orders.edge_list.rise c.requires.row.lists_fit (omega (arith, low, long), same) in
     let behind = c.behind.result.now in
     record {
-      room = c.take_partners.ensures.room;
-      terms = omega (arith, few, long, ap (length {A = ℕ}) c.behind.ensures, length-drop (i + 1) edges, c.loop-i.invariant.terms, c.in_ok-take_partners.ensures.terms);
+      room = c.take_edge.ensures.room;
+      long = c.take_edge.ensures.long ∙ c.loop-i.invariant.long;
+      none = c.take_edge.ensures.none;
+      terms = omega (arith, few, long, ap (length {A = ℕ}) c.behind.ensures, length-drop (i + 1) edges, c.loop-i.invariant.terms, c.in_ok-take_edge.ensures.terms);
       leads =
           leads_on (PairsStand g (state_in leaf) leaf.d) _ _ _ (λ v. m * row_part g (orders_of row) v edges) (λ v. m * row_part g (orders_of row) v (drop i edges))
-          (λ v. m * partners_part g c.at.result.now v e behind) (λ v. m * row_part g (orders_of row) v (drop (i + 1) edges))
-          c.loop-i.invariant.leads c.in_ok-take_partners.ensures.takes
+          (λ v. m * partners_part g (has c.at.result.now) v e behind) (λ v. m * row_part g (orders_of row) v (drop (i + 1) edges))
+          c.loop-i.invariant.leads c.in_ok-take_edge.ensures.takes
           (λ v.
-          let less : m * partners_part g c.at.result.now v e behind ≡ m * partners_part g (orders_of row e) v e (drop (i + 1) edges) =
-              ap (λ l. m * partners_part g l v e behind) list ∙ ap (λ ys. m * partners_part g (orders_of row e) v e ys) c.behind.ensures in
+          let less : m * partners_part g (has c.at.result.now) v e behind ≡ m * partners_part g (has (orders_of row e)) v e (drop (i + 1) edges) =
+              ap (λ l. m * partners_part g (has l) v e behind) list ∙ ap (λ ys. m * partners_part g (has (orders_of row e)) v e ys) c.behind.ensures in
           omega (arith, less, row_more g v m (orders_of row) edges i low));
     }
 

@@ -13,6 +13,8 @@ loop-number-init c =
     let leaf = c.args.leaf.now in
     record {
       room = c.requires.room;
+      long = refl;
+      none = c.requires.unnoted;
       terms = omega (arith, c.requires.none);
       takes = off_none (PairsStand leaf.graph.now (state_in leaf) leaf.d) _ (pairs_part leaf []) (λ v. refl);
     }
@@ -30,6 +32,8 @@ loop-number-preserved c =
     let row_is : row_at rows p.0 ≡ row = get_or_default rows p.0 _ c.index-leaf-number.result (c.requires.leaf.are_rows i (0, 0) low) in
     record {
       room = c.take_row.ensures.room;
+      long = c.take_row.ensures.long ∙ c.loop-number.invariant.long;
+      none = c.take_row.ensures.none;
       terms = omega (arith, c.loop-number.invariant.terms, c.in_ok-take_row.ensures.terms);
       takes =
           off_more (PairsStand g (state_in leaf) leaf.d) _ _ _ (pairs_part leaf (take i parts)) (λ v. p.1 * pairs_value g row v) (pairs_part leaf (take (i + 1) parts))
