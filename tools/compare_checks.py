@@ -1,96 +1,114 @@
 #!/usr/bin/env python3
-"""Compares `xnum check` with tools/plain_check.py on changed answers: python3 tools/compare_checks.py GRAPH ANSWER COUNT [PROGRAM]
+"""Compares the program with plain judges on texts and words changed at random: python3 tools/compare_checks.py COUNT [PROGRAM [SEED]]
 
-COUNT times one to three small changes are made to the answer: a number, two numbers of lines of one kind or two lines changed for each
-other, a line, a space, the end. Both must print the same line with the same status. Each answer on which they differ is written to
-/tmp/differs-N.answer.
+COUNT runs are made of `solve`, `check`, `examine` and `draw`, on the answers of examples/ and on answers that `solve` made of random small
+graphs, on their graphs, and on words: all of them changed at random. Status, standard output and standard error have to be those of
+tools/plain_ends.py; an answer that `solve` writes has to be accepted by tools/plain_check.py. Files and words of a run that differs are kept
+in /tmp/differs-N. PROGRAM is `./xnum` where none is given, SEED is 1.
 """
 import collections
 import pathlib
 import random
+import shlex
+import shutil
 import subprocess
 import sys
 import tempfile
+import time
 
-import plain_check
-from plain_rules import read_gml
+import changes
+import plain_ends
 
-
-# where the number of words that follow stands
-COUNTS = {"along": 1, "over": 2, "path": 1, "extension": 1, "leaf": 2}
-
-
-def other_number(word, generator):
-    near = [str(max(0, int(word) + step)) for step in (-2, -1, 1, 2)] if word.isdigit() else []
-    far = ["0", "1", "7", "00", "-1", "", "x", str(2**32), str(2**63 - 1), str(2**63), str(2**64), str(2**70)]
-    return generator.choice(near * 20 + far)
+TOP = pathlib.Path(__file__).resolve().parent.parent
+# how many graphs that `solve` answered are kept beside those of examples/
+KEPT = 40
 
 
-def lines_of(lines, key):
-    return [i for i, line in enumerate(lines) if line.split(" ")[0] == key]
+class Trials:
+    def __init__(self, program, seed, folder):
+        self.program, self.folder, self.generator = program, folder, random.Random(seed)
+        self.pairs = []
+        for graph in sorted(TOP.glob("examples/*.gml")):
+            self.pairs.append((graph.read_bytes(), graph.with_suffix(".answer").read_bytes()))
+        self.given = len(self.pairs)
+        self.seen, self.differing = collections.Counter(), 0
 
+    def run(self, words):
+        done = subprocess.run([self.program.encode(), *words], cwd=self.folder, capture_output=True)
+        return done.returncode, done.stdout.decode("latin-1"), done.stderr.decode("latin-1")
 
-def some_place(words, generator):
-    """A place of a number, seldom that of a count."""
-    j = generator.randrange(1, len(words))
-    return generator.randrange(1, len(words)) if j == COUNTS.get(words[0]) else j
+    def put(self, graph, answer):
+        pathlib.Path(self.folder, "graph").write_bytes(graph)
+        pathlib.Path(self.folder, "answer").write_bytes(answer)
 
+    def compare(self, words):
+        """Runs the words; where `solve` ended as it should, its answer."""
+        wanted, got = plain_ends.wanted(words, self.folder), self.run(words)
+        flaw = None
+        if len(wanted) == 2:
+            flaw = plain_ends.solve_flaw(*wanted, got)
+        elif wanted != got:
+            flaw = f"wanted {wanted}, got {got}"
+        shown = (got[1] if got[0] == 1 else got[2]).split()
+        told = " ".join(word for word in shown if not word.lstrip("-").isdigit())
+        command = words[0].decode("latin-1") if words and got[0] != 2 else "words"
+        self.seen[f"{command} {got[0]} {told}".strip()] += 1
+        if flaw:
+            self.keep(words, flaw)
+        return got[1].encode() if len(wanted) == 2 and not flaw else None
 
-def changed(lines, generator):
-    """The lines with one change. A kind of line is chosen first, since some kinds have many lines."""
-    lines = lines[:]
-    i = generator.choice(lines_of(lines, generator.choice(sorted({line.split(" ")[0] for line in lines}))))
-    kind = generator.randrange(20)
-    words = lines[i].split(" ")
-    if kind < 11 and len(words) > 1:
-        j = some_place(words, generator)
-        words[j] = other_number(words[j], generator)
-        lines[i] = " ".join(words)
-    elif kind < 16 and len(words) > 1:
-        like = generator.choice(lines_of(lines, words[0]))
-        others = words if like == i else lines[like].split(" ")
-        j, k = some_place(words, generator), some_place(others, generator) if len(others) > 1 else 0
-        words[j], others[k] = others[k], words[j]
-        lines[i], lines[like] = " ".join(words), " ".join(others)
-    elif kind == 16:
-        del lines[i]
-    elif kind == 17:
-        lines.insert(i, generator.choice(lines))
-    elif kind == 18:
-        j = generator.randrange(len(lines))
-        lines[i], lines[j] = lines[j], lines[i]
-    else:
-        lines[i] += generator.choice([" ", "  1", "\t", "\r", " 0"])
-    return lines
+    def keep(self, words, flaw):
+        place = pathlib.Path(f"/tmp/differs-{self.differing}")
+        shutil.copytree(self.folder, place, dirs_exist_ok=True)
+        line = shlex.join(word.decode("utf-8", "surrogateescape") for word in words)
+        (place / "words").write_text(f"{line}\n{flaw}\n", errors="surrogateescape")
+        print(f"{place}: xnum {line}: {flaw}"[:2000], flush=True)
+        self.differing += 1
+
+    def solve(self):
+        """Solves a new graph; its answer is changed later."""
+        graph = changes.made_graph(self.generator)
+        self.put(graph, b"")
+        budget = self.generator.choice([0, 1, 3, 30, 300])
+        answer = self.compare([b"solve", b"graph", b"--budget", str(budget).encode()])
+        if answer:
+            if len(self.pairs) == self.given + KEPT:
+                del self.pairs[self.generator.randrange(self.given, len(self.pairs))]
+            self.pairs.append((graph, answer))
+
+    def trial(self):
+        generator = self.generator
+        kind = generator.randrange(20)
+        graph, answer = generator.choice(self.pairs)
+        if kind == 0:
+            return self.solve()
+        if kind < 12:
+            self.put(graph, changes.changed_answer(answer, generator))
+            command = generator.choice([b"check", b"check", b"check", b"draw", b"examine"])
+            return self.compare([command, b"answer"] if command == b"examine" else [command, b"graph", b"answer"])
+        if kind < 17:
+            self.put(changes.changed_graph(graph, generator), answer)
+            return self.compare(generator.choice([[b"check", b"graph", b"answer"], [b"draw", b"graph", b"answer"], [b"solve", b"graph", b"--budget=0"]]))
+        graph, answer = generator.choice(self.pairs[self.given :] or self.pairs)  # small ones: a budget may be large
+        self.put(graph, answer)
+        words = [[b"check", b"graph", b"answer"], [b"draw", b"graph", b"answer"], [b"examine", b"answer"], [b"solve", b"graph", b"--budget", b"2"]]
+        return self.compare(changes.changed_words(generator.choice(words), generator))
 
 
 def main():
-    graph, answer, count = sys.argv[1], pathlib.Path(sys.argv[2]).read_text(), int(sys.argv[3])
-    program = sys.argv[4] if len(sys.argv) > 4 else pathlib.Path(__file__).resolve().parent.parent / "xnum"
-    read = read_gml(pathlib.Path(graph).read_text())
-    generator = random.Random(answer)
-    seen, differing = collections.Counter(), 0
-    with tempfile.NamedTemporaryFile(suffix=".answer") as file:
-        for n in range(count):
-            lines = answer.splitlines()
-            for _ in range(generator.choice([1, 1, 1, 2, 3])):
-                lines = changed(lines, generator) if lines else ["end"]
-            data = "".join(line + "\n" for line in lines).encode()
-            if generator.randrange(20) == 0:
-                data = generator.choice([data[:-1], data + b"\n", data + b"e", data[: generator.randrange(len(data))]])
-            pathlib.Path(file.name).write_bytes(data)
-            try:
-                wanted, status = "accepted {} {}".format(*plain_check.check(read, data)), 0
-            except plain_check.Refused as refused:
-                wanted, status = str(refused), 1
-            done = subprocess.run([program, "check", graph, file.name], stdout=subprocess.PIPE, text=True)
-            seen[" ".join(w for w in wanted.split() if not w.lstrip("-").isdigit())] += 1
-            if (done.stdout, done.returncode) != (wanted + "\n", status):
-                print(f"wanted {wanted!r} {status}, got {done.stdout!r} {done.returncode}")
-                pathlib.Path(f"/tmp/differs-{differing}.answer").write_bytes(data)
-                differing += 1
-    print(f"{count} answers, {differing} differ:", ", ".join(f"{text} {times}" for text, times in seen.most_common()))
-    sys.exit(1 if differing else 0)
+    count = int(sys.argv[1])
+    program = str(pathlib.Path(sys.argv[2]).resolve()) if len(sys.argv) > 2 else str(TOP / "xnum")
+    start = time.monotonic()
+    with tempfile.TemporaryDirectory() as folder:
+        trials = Trials(program, int(sys.argv[3]) if len(sys.argv) > 3 else 1, folder)
+        for _ in range(5):
+            trials.solve()
+        for _ in range(count):
+            trials.trial()
+    for text, times in trials.seen.most_common():
+        print(f"{times:7} {text}")
+    print(f"{count} runs in {time.monotonic() - start:.0f} s, {trials.differing} differ")
+    sys.exit(1 if trials.differing else 0)
 
 
 if __name__ == "__main__":

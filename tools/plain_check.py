@@ -1,7 +1,7 @@
 #!/usr/bin/env python3
 """Checks an answer for a graph, plainly and slowly: python3 tools/plain_check.py GRAPH ANSWER [EVERY]
 
-It prints `accepted LOWER UPPER`, or `refused LINE ..` with the first flaw. It shares nothing with the program:
+It prints `accepted LOWER UPPER`, or `refused LINE ..` with the first flaw; `see` judges a drawing alone. It shares nothing with the program:
 bounds are sums of whole numbers variable by variable, components are found by walks, and flat insertions are all tried. With EVERY, only
 each EVERYth leaf has its bound computed; all else is still checked. The graph's text is taken to be GML that the program would read.
 """
@@ -12,6 +12,8 @@ from plain_rules import Flaw, State, bound, examine, independent_pairs, read_gml
 
 NUMBER = re.compile(rb"0|[1-9][0-9]*")
 WORD = 1 << 32
+# numbers may have any length
+getattr(sys, "set_int_max_str_digits", int)(0)
 
 
 class Refused(Exception):
@@ -70,43 +72,51 @@ class Text:
             self.refuse(prefix + str(flaw))
 
 
-def read_front(text, graph):
-    """The bounds, where the drawing is one of the graph."""
-    nodes, edges, loops = graph
+def read_edges(text, graph):
+    """The number of nodes and the edges: those of the graph where one is given."""
     text.marker(b"crossing-answer 1")
     n, m = text.line(b"graph", 2)
     text.range_test((n, 1001), (m, 1001))
-    if (n, m) != (nodes, len(edges)):
+    if graph and (n, m) != (graph[0], len(graph[1])):
         text.refuse("size-differs")
     (said,) = text.line(b"loops", 1)
     text.range_test((said, 1 << 64))
-    if said != loops:
+    if graph and said != graph[2]:
         text.refuse("size-differs")
+    edges = []
     for e in range(m):
         u, v = text.line(b"edge", 2)
         text.range_test((u, n), (v, n))
         if u == v:
             text.refuse(f"loop {e}")
-        if (u, v) != edges[e]:
+        if graph and (u, v) != graph[1][e]:
             text.refuse(f"edge-differs {e}")
+        edges.append((u, v))
+    return n, edges
+
+
+def read_front(text, graph):
+    """The drawing (nodes, edges, orders, turns), its counts and the lower bound; of the graph where one is given."""
+    nodes, edges = read_edges(text, graph)
     lower, upper = text.line(b"bounds", 2)
     text.range_test((lower, 499501), (upper, 499501))
     spent, budget = text.line(b"effort", 2)
     text.range_test((budget, 200001), (spent, budget + 1))
     orders = []
-    for _ in range(m):
+    for _ in edges:
         k, *own = text.line(b"along", (0, 1))
         text.range_test((k, 1000), *((f, WORD) for f in own))
         orders.append(own)
     turns = []
-    for _ in range(m + sum(map(len, orders))):
+    for _ in range(len(edges) + sum(map(len, orders))):
         turns += text.line(b"turn", 2)
         text.range_test((turns[-2], WORD), (turns[-1], WORD))
     text.marker(b"drawn")
-    counted = text.judged(lambda: examine(nodes, edges, orders, turns))
-    if counted != upper:
-        text.refuse(f"count {upper} {counted}")
-    return lower, upper
+    drawing = nodes, edges, orders, turns
+    counts = text.judged(lambda: examine(*drawing))
+    if counts[0] != upper:
+        text.refuse(f"count {upper} {counts[0]}")
+    return drawing, counts, lower
 
 
 def read_row(text, edges):
@@ -134,12 +144,22 @@ def read_row(text, edges):
     return listed, lists, kind, branch, paths
 
 
-def judge_leaf(text, words, number, state, given, every):
-    """Judges a leaf. Given are the pairs, the terms of the rows, the lower bound and the number of leaves so far."""
-    pairs, terms, lower, leaves = given
-    divisor, _, *flat = text.numbers(words, b"leaf", (1, 2))
-    parts = list(zip(flat[::2], flat[1::2]))
-    text.range_test(*((x - 1 if x else 1 << 63, (1 << 63) - 1) for x in [divisor] + flat[1::2]), *((r, len(terms)) for r, _ in parts))
+def read_step(text, words, edges, rows):
+    """A node line: its key, and a divisor and parts, or two edges."""
+    if words[0] == b"leaf":
+        divisor, _, *flat = text.numbers(words, b"leaf", (1, 2))
+        parts = list(zip(flat[::2], flat[1::2]))
+        text.range_test(*((x - 1 if x else 1 << 63, (1 << 63) - 1) for x in [divisor] + flat[1::2]), *((r, rows) for r, _ in parts))
+        return b"leaf", divisor, parts
+    kind = b"place" if words[0] == b"place" else b"pair"
+    e, f = text.numbers(words, kind, 2)
+    text.range_test((e, len(edges)), (f, len(edges)))
+    return kind, e, f
+
+
+def judge_leaf(text, number, parts, state, given, every):
+    """Judges a leaf. Given are the divisor, the pairs, the terms of the rows, the lower bound and the number of leaves so far."""
+    divisor, pairs, terms, lower, leaves = given
     if state is None or any(a >= b for (a, _), (b, _) in zip(parts, parts[1:])):
         text.refuse(f"tree {number}")
     if leaves % every == 0:
@@ -155,15 +175,13 @@ def judge_tree(text, edges, terms, lower, every):
         words = text.words()
         if words == [b"end"]:
             break
+        kind, first, second = read_step(text, words, edges, len(terms))
         state = pending.pop() if pending else None
-        if words[0] == b"leaf":
-            judge_leaf(text, words, number, state, (pairs, terms, lower, leaves), every)
+        if kind == b"leaf":
+            judge_leaf(text, number, second, state, (first, pairs, terms, lower, leaves), every)
             leaves += 1
         else:
-            kind = b"place" if words[0] == b"place" else b"pair"
-            e, f = text.numbers(words, kind, 2)
-            text.range_test((e, len(edges)), (f, len(edges)))
-            children = state.children(edges, kind, e, f) if state else None
+            children = state.children(edges, kind, first, second) if state else None
             if children is None:
                 text.refuse(f"tree {number}")
             pending += reversed(children)
@@ -172,24 +190,45 @@ def judge_tree(text, edges, terms, lower, every):
         text.refuse(f"tree {number}")
 
 
+def read_rows(text, edges):
+    """The rows one by one, each when its lines are read."""
+    (count,) = text.line(b"rows", 1)
+    text.range_test((count, (1 << 20) + 1))
+    for _ in range(count):
+        yield read_row(text, edges)
+
+
+def ends(text):
+    if text.at < len(text.data):
+        text.number += 1
+        text.refuse("trailing")
+
+
 def check(graph, data, every=1):
     """The bounds that are accepted; raises what is refused."""
     nodes, edges, _ = graph
     text = Text(data)
-    lower, upper = read_front(text, graph)
-    (count,) = text.line(b"rows", 1)
-    text.range_test((count, (1 << 20) + 1))
+    _, counts, lower = read_front(text, graph)
     terms = []
-    for i in range(count):
-        row = read_row(text, edges)
+    for i, row in enumerate(read_rows(text, edges)):
         text.judged(lambda: row_flaw(nodes, edges, row), f"row {i} ")
         terms.append(row_terms(edges, row))
     text.marker(b"tree")
     judge_tree(text, edges, terms, lower, every)
-    if text.at < len(data):
-        text.number += 1
-        text.refuse("trailing")
-    return lower, upper
+    ends(text)
+    return lower, counts[0]
+
+
+def see(graph, data):
+    """The drawing and its counts, where the lines behind it have their form; of the graph where one is given."""
+    text = Text(data)
+    drawing, counts, _ = read_front(text, graph)
+    rows = sum(1 for _ in read_rows(text, drawing[1]))
+    text.marker(b"tree")
+    while (words := text.words()) != [b"end"]:
+        read_step(text, words, drawing[1], rows)
+    ends(text)
+    return drawing, counts
 
 
 def main():

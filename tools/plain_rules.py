@@ -148,7 +148,7 @@ def rotation_flaw(segments, turns):
 
 
 def examine(nodes, edges, orders, turns):
-    """The number of crossings, or the first flaw."""
+    """The numbers of crossings, nodes, segments, faces and components of the web, or the first flaw."""
     listed = list(range(len(edges)))
     order_flaw(edges, listed, orders)
     all_nodes, segments, starts = web(nodes, edges, listed, orders)
@@ -163,7 +163,28 @@ def examine(nodes, edges, orders, turns):
     parts = component_count(all_nodes, segments)
     if all_nodes - len(segments) + faces != 2 * parts:
         raise Flaw(f"genus {all_nodes} {len(segments)} {faces} {parts}")
-    return len(pairs)
+    return len(pairs), all_nodes, len(segments), faces, parts
+
+
+def shown(ids, edges, orders, turns):
+    """The text of a drawing that has no flaw."""
+    all_nodes, segments, starts = web(len(ids), edges, list(range(len(edges))), orders)
+    of = sorted((start, e) for e, start in starts.items())
+    edge_of = [e for k, (start, e) in enumerate(of) for _ in range(start, of[k + 1][0] if k + 1 < len(of) else len(segments))]
+    rings = [[] for _ in range(all_nodes)]
+    for d in range(2 * len(segments)):
+        ring = rings[segments[d // 2][d % 2]]
+        if not ring:
+            ring.append(d)
+            while turns[ring[-1]] != d:
+                ring.append(turns[ring[-1]])
+    lines = ["graph [", "  directed 0"]
+    for v, ring in enumerate(rings):
+        kind = f'label "{ids[v]}" kind "input"' if v < len(ids) else 'kind "crossing"'
+        lines.append(f'  node [ id {v} {kind} turn "{" ".join(map(str, ring))}" ]')
+    for s, (u, v) in enumerate(segments):
+        lines.append(f"  edge [ id {s} source {u} target {v} of {edge_of[s]} ]")
+    return "\n".join(lines + ["]", ""])
 
 
 # --- rows ---
