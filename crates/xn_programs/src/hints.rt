@@ -85,9 +85,18 @@ impl Hints {
         point_of(alloc, graph, pairs, &self.lines, self.program.columns())
     }
 
-    /// Those of the known rows come in that are missed most: whether there were some.
+    /// Those of the known rows come in that are missed most: whether there were some. Where the numbers of the
+    /// table have drifted, it is made anew instead.
     pub fn add_missed(&mut self, alloc: Global) -> Result<bool, AllocError> {
+        if self.program.has_drifted(&self.lines) && self.renew(alloc)? {
+            return Ok(true);
+        }
         self.program.add_missed(alloc, &self.lines)
+    }
+
+    /// The table of the program is made anew, at most twice in a state: whether it was.
+    pub fn renew(&mut self, alloc: Global) -> Result<bool, AllocError> {
+        self.program.renew(alloc, &self.lines)
     }
 
     /// What a row is worth that isn't among the known ones; it is noted as if it were the next one.
@@ -97,7 +106,8 @@ impl Hints {
         if !self.lines.is_last_new() {
             return Ok(Worth::Nothing);
         }
-        if self.program.columns().is_missed(self.lines.at(number)) {
+        let terms = self.lines.at(number);
+        if self.program.columns().missed_value(terms).is_some() {
             Ok(Worth::Now)
         } else {
             Ok(Worth::Later)

@@ -10,6 +10,8 @@ mod leaves;
 mod lines;
 mod points;
 mod programs;
+#[cfg(test)]
+mod tests;
 mod turns;
 
 pub use deciding::ByPrograms;

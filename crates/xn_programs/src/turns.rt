@@ -43,11 +43,16 @@ pub fn turns(
     for _ in 0..most {
         match solve_once(alloc, claim, given, rows.as_slice(), hints)? {
             Turn::Closed(leaf) => return Ok(Some(leaf)),
-            Turn::Lost => return Ok(None),
-            Turn::Open => {}
-        }
-        if !goes_on(alloc, claim, given, pairs, rows, hints, cutters)? {
-            return Ok(None);
+            Turn::Lost => {
+                if !hints.renew(alloc)? {
+                    return Ok(None);
+                }
+            }
+            Turn::Open => {
+                if !goes_on(alloc, claim, given, pairs, rows, hints, cutters)? {
+                    return Ok(None);
+                }
+            }
         }
     }
     Ok(None)
