@@ -349,7 +349,7 @@ def main():
                 if not printed.startswith(wanted):
                     break
             good = printed.startswith(wanted)
-            growth = math.log(max(found[-1][1], 1e-3) / max(found[0][1], 1e-3)) / math.log(found[-1][0] / found[0][0]) if len(found) > 1 else 0
+            growth = math.log(max(found[-1][1], 1e-3) / max(found[0][1], 1e-3)) / math.log(found[-1][0] / found[0][0]) if found and found[-1][0] > found[0][0] else 0
             steep = not good or growth > 1.3 and found[-1][1] > 1
             told = "; ".join(f"{bytes_ / 1e6:.2f} MB {seconds:.2f} s" for bytes_, seconds, _ in found)
             mark = "" if not steep else ("steep, as is known" if kind in KNOWN and printed in (wanted, "stopped") else "STEEP" if good else f"NOT OK: {printed}")
