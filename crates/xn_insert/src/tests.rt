@@ -1,4 +1,4 @@
-//! Two nodes and the edge between them, and edges that come in one after the other.
+//! Two nodes and the edge between them, edges that come in one after the other, and an edge with a kink.
 ghost use Rattle.std.specs.Prelude.{◌≡◌, [], IfOk};
 ghost use Rattle.xn_insert.specs.ListedLoose.{IsLooseOf, edges_in};
 
@@ -76,6 +76,44 @@ fn counts(
 ) -> Result<(u64, u32), Fail> {
     let graph = Graph::make(nodes, Vec::from_slice(alloc, ends)?)?;
     all_come_in(rt, alloc, &graph)
+}
+
+/// What is made of one edge and a web with a loop at a third node, with these turns and this walk.
+fn kinked(alloc: Global, turns: &[u32], walk: &[u32]) -> Result<Result<Loose, LooseErr>, Fail> {
+    let graph = Graph::make(2, [(0, 1)].to_vec(alloc)?)?;
+    let web = Web::make(3, [(0, 2), (2, 2), (2, 1)].to_vec(alloc)?)?;
+    let map = Map::make(alloc, web, turns)?;
+    let walks = Walks::new(vec![in alloc; walk.to_vec(alloc)?]?);
+    Ok(Loose::make(alloc, &graph, map, walks))
+}
+
+/// The flaw, where there is one.
+fn flaw_of(made: Result<Loose, LooseErr>) -> Option<LooseFlaw> {
+    match made {
+        Err(LooseErr::Flaw(flaw)) => Some(flaw),
+        _ => None,
+    }
+}
+
+/// An edge crosses itself; it leaves its loop out; it touches itself.
+#[test]
+fn an_edge_with_a_kink(rt: HostRuntime) -> Result<(), Fail> {
+    let alloc = rt.alloc();
+    let crosses = [0, 3, 4, 2, 1, 5];
+    let touches = [0, 2, 3, 4, 1, 5];
+    match kinked(alloc, &crosses, &[0, 2, 4])? {
+        Ok(loose) => assert_eq!(rt; loose.crossings(), 1),
+        Err(_) => Err("refused")?,
+    }
+    assert_eq!(rt;
+        flaw_of(kinked(alloc, &crosses, &[0, 4])?),
+        Some(LooseFlaw::Walked(1))
+    );
+    assert_eq!(rt;
+        flaw_of(kinked(alloc, &touches, &[0, 2, 4])?),
+        Some(LooseFlaw::Turn(2))
+    );
+    Ok(())
 }
 
 /// Components are joined, a cycle is closed, and the last edge of K5 has to cross another.
