@@ -18,6 +18,7 @@ pub fn flat_graphs()
 pub fn answers()
     ensures { ProvedAnswersAreWellFormed }
 {
+    all_drawings();
     accepted_proofs();
     trees_go_through_states();
 }
