@@ -1,5 +1,5 @@
 -- Maps and walks that have all that a loose drawing has are one, and those that have a flaw are none.
-use Rattle.std.proofs.Common.{◌≡◌, ◌≢◌, ℕ, zero, suc, ◌+◌, ◌-◌, ◌*◌, ◌<◌, ◌≤◌, inl, inr, true, false, List, [], ◌∷◌, length, refl, sym, ◌∙◌, ap, subst, arith}
+use Rattle.std.proofs.Common.{◌≡◌, ℕ, zero, suc, ◌-◌, ◌<◌, ◌≤◌, inl, inr, true, false, List, [], ◌∷◌, length, refl, sym, ◌∙◌, ap, subst, arith}
 use Rattle.std.specs.List.{flat_map, range_with_len}
 use Rattle.std.proofs.lemmas.Bool.{both_ways, cases_Bool, cases_eq, cases_lt, cases_order}
 use Rattle.xn_model.specs.Graph.{Graph, IsGraph, edges_of, ends_at}
@@ -8,12 +8,11 @@ use Rattle.xn_model.specs.Loose.{GoesStraight, IsLoose, times_walked}
 use Rattle.xn_model.specs.Map.{MeetsEuler, WalksTo, reverse_of, tail_of}
 use Rattle.xn_model.proofs.Ranges.{edge_list}
 use Rattle.xn_genus.proofs.Compress.{tail_in}
-use Rattle.xn_graph.specs.Counts.{IsBalanced, euler_of}
+use Rattle.xn_graph.specs.Counts.{IsBalanced}
 use Rattle.xn_map.specs.Listed.{IsListedMap, ListedMap}
 use Rattle.xn_track.proofs.Passes.{walk_in}
-use Rattle.xn_insert.specs.Judged.{BendsAt, FlawedIsNotDrawn, HasSizes, HasTurns, HasWalks, IsBent, IsCrossing, IsDrawnLoosely, IsFirstFailing, IsMade, IsWalkedOnce, LeadsWell, OneLooseFlaw, WalksOnce, darts_walked}
+use Rattle.xn_insert.specs.Judged.{FlawedIsNotDrawn, HasSizes, HasTurns, IsBent, IsCrossing, IsDrawnLoosely, IsFirstFailing, IsMade, IsWalkedOnce, LeadsWell, OneLooseFlaw, darts_walked}
 use Rattle.xn_insert.specs.ListedLoose.{edges_in, has_dart, loose_of, walk_of}
-use Rattle.xn_insert.specs.declared.flaws.LooseFlaw.{LooseFlaw}
 use Rattle.xn_insert.specs.declared.flaws.LooseFlaw.TheVariants.{Size, Ends, Walked, Turn, Genus}
 use Rattle.xn_insert.proofs.Started.{all_in, below_range, has-range}
 

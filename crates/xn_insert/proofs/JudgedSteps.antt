@@ -1,21 +1,21 @@
 -- The steps by which walks are judged.
-use Rattle.std.proofs.Common.{◌≡◌, ◌≢◌, ℕ, zero, suc, ◌+◌, ◌*◌, ◌/◌, ◌<◌, ◌≤◌, ◌⊎◌, ◌↔◌, inl, inr, Bool, true, false, List, [], ◌∷◌, ◌++◌, eqb, length, take, set, replicate, min, refl, sym, ◌∙◌, ap, subst, arith}
+use Rattle.std.proofs.Common.{◌≡◌, ◌≢◌, ℕ, zero, suc, ◌+◌, ◌*◌, ◌/◌, ◌<◌, ◌≤◌, inl, inr, Bool, true, false, List, [], ◌∷◌, ◌++◌, eqb, length, take, set, replicate, min, refl, sym, ◌∙◌, ap, subst, arith}
 use Rattle.std.specs.List.{flat_map, range_with_len}
 use Rattle.std.proofs.lemmas.Bool.{both_ways, cases_Bool, cases_eq, cases_lt, eq-eqb, ne_eqb}
 use Rattle.std.proofs.lemmas.List.{append-nil, get_or-replicate, get_or-set_other, get_or-set_same, length-replicate, length-set}
 use Rattle.std.proofs.lemmas.List.Concat.{flat_map-append}
 use Rattle.xn_model.specs.Graph.{Graph}
-use Rattle.xn_model.specs.Lists.{at, has, one_if}
-use Rattle.xn_model.specs.Loose.{dart_count, times_walked}
-use Rattle.xn_model.specs.Map.{WalksTo, reverse_of, tail_of}
+use Rattle.xn_model.specs.Lists.{at, one_if}
+use Rattle.xn_model.specs.Loose.{times_walked}
+use Rattle.xn_model.specs.Map.{reverse_of, tail_of}
 use Rattle.xn_model.proofs.Ranges.{range-push}
-use Rattle.xn_map.specs.Listed.{IsListedMap, ListedMap}
+use Rattle.xn_map.specs.Listed.{ListedMap}
 use Rattle.xn_map.specs.Marks.{is_marked}
 use Rattle.xn_map.proofs.Marking.{is_marked-set}
 use Rattle.xn_track.proofs.Passes.{walk_in}
-use Rattle.xn_insert.specs.Judged.{AreBends, AreTimes, BendsAt, HasTurns, HasWalks, IsBent, IsCrossing, IsFirstFailing, IsUnmarkedFour, IsWalkedOnce, MarksBends, WalksOnce, darts_walked}
+use Rattle.xn_insert.specs.Judged.{AreBends, AreTimes, BendsAt, HasTurns, HasWalks, IsCrossing, IsFirstFailing, IsUnmarkedFour, IsWalkedOnce, MarksBends, WalksOnce, darts_walked}
 use Rattle.xn_insert.specs.ListedLoose.{walk_of}
-use Rattle.xn_insert.proofs.Started.{below_range, total-take}
+use Rattle.xn_insert.proofs.Started.{total-take}
 
 -- ---- how often segments are walked
 

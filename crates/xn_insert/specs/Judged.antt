@@ -1,13 +1,13 @@
 -- What is first wrong with a map and walks that are said to be a loose drawing of all edges of a graph.
-use Rattle.std.specs.Prelude.{◌≡◌, ◌≢◌, ℕ, suc, ◌+◌, ◌<◌, ◌≤◌, ◌⊎◌, ◌↔◌, Bool, true, false, List, length, min}
+use Rattle.std.specs.Prelude.{◌≡◌, ◌≢◌, ℕ, suc, ◌<◌, ◌≤◌, ◌⊎◌, ◌↔◌, Bool, true, false, List, length, min}
 use Rattle.std.specs.List.{flat_map, range_with_len}
 use Rattle.xn_model.specs.Drawing.{IsDrawing}
-use Rattle.xn_model.specs.Graph.{Graph, IsGraph, edges_of, ends_at}
+use Rattle.xn_model.specs.Graph.{Graph, edges_of, ends_at}
 use Rattle.xn_model.specs.Lists.{at}
 use Rattle.xn_model.specs.Loose.{dart_count, times_walked}
 use Rattle.xn_model.specs.Map.{WalksTo, reverse_of, tail_of}
 use Rattle.xn_graph.specs.Counts.{IsBalanced, euler_of}
-use Rattle.xn_map.specs.Listed.{IsListedMap, ListedMap}
+use Rattle.xn_map.specs.Listed.{ListedMap}
 use Rattle.xn_map.specs.Marks.{is_marked}
 use Rattle.xn_insert.specs.ListedLoose.{IsLooseOf, ListedLoose, edges_in, loose_of, walk_of}
 use Rattle.xn_insert.specs.declared.flaws.LooseErr.{LooseErr}

@@ -30,6 +30,7 @@ fn first_astray(graph: &Graph, map: &Map, walks: &Walks) -> Option<u32>
         ((e : ℕ) → e < length graph.now.ends → LeadsWell graph.now map.now walks.now e)
         (λ e. (e < length graph.now.ends) × IsFirstFailing 0 (LeadsWell graph.now map.now walks.now) e) }
 {
+    let _web = map.web();
     let nodes = graph.nodes();
     for e in 0..graph.edges() {
         let (u, v) = graph.end(e);
