@@ -1,5 +1,6 @@
 //! The decider on K5, of which one row closes the state without crossings, and its parts on that row.
-ghost use Rattle.std.specs.Prelude.{◌≤◌};
+ghost use Rattle.std.specs.Prelude.{◌≤◌, IfOk};
+ghost use Rattle.xn_search.specs.Choice.{IsCountedDrawing};
 
 use super::*;
 use crate::frames::Frames;
@@ -7,6 +8,7 @@ use crate::lines::Lines;
 use crate::programs::Program;
 use std::alloc::{AllocError, Global};
 use std::test::Fail;
+use xn_cutter::Cutter;
 use xn_draw::examine;
 use xn_graph::{Graph, Web};
 use xn_kinds::{Drawing, Evidence, Orders, Row};
@@ -14,7 +16,7 @@ use xn_kura::find_kind;
 use xn_list::Sequence;
 use xn_map::Map;
 use xn_plant::{Planarity, Planes};
-use xn_search::{counted, solve_from};
+use xn_search::{Drawn, counted, solve_from};
 use xn_sound::laws::rows;
 use xn_table::Outcome;
 use xn_tree::Given;
@@ -82,17 +84,28 @@ fn drawing_of_k5(alloc: Global) -> Result<Drawing, AllocError> {
     })
 }
 
+/// That drawing with its crossings counted.
+fn first_of_k5(alloc: Global, graph: &Graph) -> Result<Drawn, AllocError>
+    ensures { IfOk result (IsCountedDrawing graph.now) }
+{
+    let drawing = drawing_of_k5(alloc)?;
+    match examine(alloc, graph, &drawing) {
+        Ok(_) => counted(alloc, graph, drawing),
+        Err(_) => Err(AllocError),
+    }
+}
+
 /// What is proved of K5 within a budget, what was spent, and how many rows the proof has.
-fn found(alloc: Global, budget: u64) -> Result<(u32, u64, usize), Fail>
+fn found(
+    alloc: Global,
+    budget: u64,
+    cutters: &mut Vec<Box<dyn Cutter>>,
+) -> Result<(u32, u64, usize), Fail>
     requires { budget ≤ 200000 }
 {
     let graph = Graph::make(5, Vec::from_slice(alloc, &ENDS)?)?;
-    let drawing = drawing_of_k5(alloc)?;
-    if examine(alloc, &graph, &drawing).is_err() {
-        return Err("no drawing")?;
-    }
-    let first = counted(alloc, &graph, drawing)?;
-    let mut decider = ByPrograms::new(alloc, Known, Vec::new(alloc));
+    let first = first_of_k5(alloc, &graph)?;
+    let mut decider = ByPrograms::new(alloc, Known, cutters);
     let solved = solve_from(alloc, &graph, first, budget, &mut decider)?;
     Ok((solved.lower, solved.spent, solved.rows.len()))
 }
@@ -141,8 +154,9 @@ fn solved(alloc: Global, crossings: u32) -> Result<(Outcome, usize, u64), Fail> 
 
 #[test]
 fn one_leaf_closes_k5(rt: HostRuntime) -> Result<(), Fail> {
-    assert_eq!(rt; found(rt.alloc(), 10_000)?, (1, 1, 1));
-    assert_eq!(rt; found(rt.alloc(), 0)?, (0, 0, 0));
+    let mut cutters: Vec<Box<dyn Cutter>> = Vec::new(rt.alloc());
+    assert_eq!(rt; found(rt.alloc(), 10_000, &mut cutters)?, (1, 1, 1));
+    assert_eq!(rt; found(rt.alloc(), 0, &mut cutters)?, (0, 0, 0));
     Ok(())
 }
 
