@@ -146,7 +146,9 @@ fn solved(alloc: Global, crossings: u32) -> Result<(Outcome, usize, u64), Fail> 
     for (_, times) in program.priced(alloc, 1 << 10)?.as_slice() {
         part = *times;
     }
-    if program.add_missed(alloc, &lines)? || program.has_drifted(&lines) {
+    // where the value isn't passed the point is read, and no row of the table is missed there
+    let is_missed = program.add_missed(alloc, &lines)? || program.has_drifted(&lines);
+    if outcome == Outcome::Best && is_missed {
         return Err("a row of the table is missed")?;
     }
     Ok((outcome, binding.len(), part))
