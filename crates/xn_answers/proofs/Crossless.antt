@@ -1,9 +1,9 @@
--- A drawing without crossings is a flat map of its graph.
+-- A drawing without crossings is a flat map of its graph: a simple one, and so any.
 use Rattle.std.proofs.Common.{◌≡◌, ℕ, suc, ◌+◌, inl, inr, true, false, List, [], ◌∷◌, length, refl, sym, ◌∙◌, ap, ap₂, subst, arith}
 use Rattle.std.specs.List.{IsDistinct, flat_map, range_with_len}
 use Rattle.std.specs.Prelude.{filter, nat_lt}
 use Rattle.std.proofs.lemmas.Bool.{both_ways, cases_Bool, cond-false, cond-true}
-use Rattle.xn_model.specs.Drawing.{HasDrawingWith}
+use Rattle.xn_model.specs.Drawing.{HasSimpleDrawingWith}
 use Rattle.xn_model.specs.Graph.{Graph, each_two, edges_of, ends_at}
 use Rattle.xn_model.specs.Lists.{has}
 use Rattle.xn_model.specs.Orders.{IsOrders, crossings_of}
@@ -11,6 +11,7 @@ use Rattle.xn_model.specs.Web.{segments_of, web_of}
 use Rattle.xn_model.proofs.Has.{has-first}
 use Rattle.xn_model.proofs.Ranges.{edge_list}
 use Rattle.xn_fewer.specs.Flat.{HasFlat}
+use Rattle.xn_general.specs.Bounds.{DrawingsGiveSimpleOnes, SimpleDrawingsAreDrawings}
 use Rattle.xn_orders.specs.Crossed.{crosses_in}
 use Rattle.xn_orders.proofs.Numbered.{crosses_in-entry}
 use Rattle.xn_answers.specs.Flat.{FlatWhereCrossless}
@@ -62,7 +63,7 @@ web_nodes g = omega (arith, ap (length {A = ℕ × ℕ}) (never_crossings (each_
 
 -- ---- both ways
 
-flat_of : (g : Graph) → HasDrawingWith g 0 → HasFlat g.nodes g.ends
+flat_of : (g : Graph) → HasSimpleDrawingWith g 0 → HasFlat g.nodes g.ends
 flat_of g drawn =
     let ord = drawn.0 in
     let flat = drawn.2.is_flat_map in
@@ -83,7 +84,7 @@ never_orders g = record {
   both_ways = λ e f there. there;
 }
 
-drawing_of : (g : Graph) → HasFlat g.nodes g.ends → HasDrawingWith g 0
+drawing_of : (g : Graph) → HasFlat g.nodes g.ends → HasSimpleDrawingWith g 0
 drawing_of g flat =
     let pairs = crossings_of (edges_of g) never in
     let graph = subst (λ n. HasFlat n (web_of g (edges_of g) never).ends) (sym (web_nodes g))
@@ -98,5 +99,12 @@ drawing_of g flat =
       ap (length {A = ℕ × ℕ}) (never_crossings (each_two (edges_of g))),
     )
 
-pub flat_where_crossless : FlatWhereCrossless
-flat_where_crossless g is_graph = (flat_of g, drawing_of g)
+pub flat_where_crossless : SimpleDrawingsAreDrawings → DrawingsGiveSimpleOnes → FlatWhereCrossless
+flat_where_crossless drawings simple g is_graph = (
+  λ drawn.
+      let s = simple g 0 drawn in
+      let few = s.2 in
+      let none : s.0 ≡ 0 = omega (arith, few) in
+      flat_of g (subst (HasSimpleDrawingWith g) none s.1),
+  λ flat. drawings g 0 is_graph (drawing_of g flat),
+)

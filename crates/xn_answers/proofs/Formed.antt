@@ -16,6 +16,7 @@ use Rattle.xn_kinds.specs.declared.answers.Answer.{Answer}
 use Rattle.xn_kinds.specs.declared.rows.Row.{Row}
 use Rattle.xn_orders.proofs.Limits.{crossings_few, edges_few, web_limited}
 use Rattle.xn_draw.proofs.Totals.{segment_count}
+use Rattle.xn_general.specs.Bounds.{SimpleDrawingsAreDrawings}
 use Rattle.xn_sound.specs.Laws.{AcceptedProofsBound}
 use Rattle.xn_proof.specs.WellFormed.{AreBounds, IsDrawingText, IsRowText, WellFormed}
 use Rattle.xn_answers.specs.Proved.{IsLimitedAnswer, IsProved}
@@ -36,12 +37,14 @@ row_text g limited row holds =
       evidence = evidence_text (web_of g row.edges ord) web.few_nodes (segments_few g row.edges ord limited holds.orders) row.evidence holds.evidence;
     }
 
-module _ (empty : EmptyIsState) (step : ChildrenAreStates) (bound : AcceptedProofsBound) (a : Answer) (limited : IsLimitedAnswer a) (proved : IsProved a) where
+module _ (empty : EmptyIsState) (step : ChildrenAreStates) (drawings : SimpleDrawingsAreDrawings) (bound : AcceptedProofsBound) (a : Answer) (limited : IsLimitedAnswer a) (proved : IsProved a) where
   lower_within : a.lower ≤ a.upper
   lower_within =
       let ord = order_of a.graph a.drawing.orders in
+      let count = crossing_count a.graph ord in
       let least = bound a.graph a.lower a.rows a.tree limited.graph.is_graph proved.accepted in
-      omega (arith, least (crossing_count a.graph ord) (ord, at a.drawing.next, proved.drawing.drawing, refl), proved.crossings)
+      let drawn = drawings a.graph count limited.graph.is_graph (ord, at a.drawing.next, proved.drawing.drawing, refl) in
+      omega (arith, least count drawn, proved.crossings)
 
   upper_few : a.upper ≤ 499500
   upper_few =

@@ -1,11 +1,11 @@
--- A drawing with at most k crossings, whose orders and rotation are functions, is one with lists.
+-- A simple drawing with at most k crossings, whose orders and rotation are functions, is one with lists.
 use Rattle.std.proofs.Common.{◌≡◌, ℕ, suc, ◌+◌, ◌*◌, ◌<◌, ◌≤◌, ◌↔◌, IsTrue, inl, inr, Bool, true, false, eqb, List, [], ◌∷◌, length, map, refl, sym, ap, ◌∙◌, subst, arith, length-append}
 use Rattle.std.specs.List.{flat_map, range_with_len}
 use Rattle.std.proofs.lemmas.Bool.{both_ways, cases_Bool, cases_lt, eqb-true}
 use Rattle.std.proofs.lemmas.List.{length-map}
 use Rattle.std.proofs.lemmas.List.FromFn.{get_or-map-range_with_len, length-range_with_len}
-use Rattle.xn_model.specs.Drawing.{IsAtMost, IsDrawing, IsAtLeast, order_of}
-use Rattle.xn_model.specs.Graph.{Graph, edges_of, ends_at}
+use Rattle.xn_model.specs.Drawing.{IsSimplyAtLeast, IsSimplyAtMost, IsSimpleDrawing, order_of}
+use Rattle.xn_model.specs.Graph.{Graph, IsGraph, edges_of, ends_at}
 use Rattle.xn_model.specs.Lists.{at, has, position_in, total}
 use Rattle.xn_model.specs.Map.{IsFlat, face_count, face_step, is_lone, reverse_of, tail_of}
 use Rattle.xn_model.specs.Orders.{IsOrders, crossing_count, crossings_of}
@@ -16,6 +16,7 @@ use Rattle.xn_model.proofs.Ranges.{has-range_past, order_at_outside}
 use Rattle.xn_ring.proofs.Agreeing.{Permutes-agrees, cycle_count-agrees, iterate-agrees}
 use Rattle.xn_genus.proofs.Counts.{Permutes-face}
 use Rattle.xn_model.proofs.Has.{has-first, position_below}
+use Rattle.xn_general.specs.Bounds.{LeastIsOfAllDrawings, MostIsOfAllDrawings}
 use Rattle.xn_brute.specs.Found.{CanList, SaysWithin}
 use Rattle.xn_brute.proofs.Doubled.{entries-le}
 use Rattle.xn_brute.proofs.OrdersAt.{order_of-at}
@@ -108,8 +109,8 @@ module _ (web : Graph) (next turns : ℕ → ℕ) (same : (d : ℕ) → d < 2 * 
       }
 
 -- the same drawing, whose rotation is a list
-listed_rotation : (g : Graph) (ord : ℕ → List ℕ) (next : ℕ → ℕ) → IsDrawing g ord next →
-    IsDrawing g ord (at (turns_of (2 * length (web_of g (edges_of g) ord).ends) next))
+listed_rotation : (g : Graph) (ord : ℕ → List ℕ) (next : ℕ → ℕ) → IsSimpleDrawing g ord next →
+    IsSimpleDrawing g ord (at (turns_of (2 * length (web_of g (edges_of g) ord).ends) next))
 listed_rotation g ord next drawn =
     let es = edges_of g in
     let web = web_of g es ord in
@@ -130,7 +131,7 @@ listed_rotation g ord next drawn =
 
 -- ---- drawings with at most k crossings
 
-pub lists_from_at_most : (g : Graph) (k : ℕ) → IsAtMost g k → CanList g k (2 * k) []
+pub lists_from_at_most : (g : Graph) (k : ℕ) → IsSimplyAtMost g k → CanList g k (2 * k) []
 lists_from_at_most g k drawing =
     let ord = drawing.1.0 in
     let es = edges_of g in
@@ -148,24 +149,24 @@ lists_from_at_most g k drawing =
         drawing = record {
           lists_fit = length-map es ord ∙ length-range_with_len 0 (length g.ends);
           next_fits = length-turns n drawing.1.1 ∙ ap (λ (o : ℕ → List ℕ). 2 * length (web_of g es o).ends) (sym same);
-          drawing = subst (λ (o : ℕ → List ℕ). IsDrawing g o (at turns)) (sym same) (listed_rotation g ord drawing.1.1 drawn);
+          drawing = subst (λ (o : ℕ → List ℕ). IsSimpleDrawing g o (at turns)) (sym same) (listed_rotation g ord drawing.1.1 drawn);
         };
         few = subst (λ (o : ℕ → List ℕ). crossing_count g o ≤ k) (sym same) few;
       };
     }
 
-pub at_most_from_lists : (g : Graph) (k left : ℕ) → CanList g k left [] → IsAtMost g k
+pub at_most_from_lists : (g : Graph) (k left : ℕ) → CanList g k left [] → IsSimplyAtMost g k
 at_most_from_lists g k left can = (_, (order_of g can.rest, at can.drawn.next, can.drawn.drawing.drawing, refl), can.drawn.few)
 
-pub least_from_none : (g : Graph) (k : ℕ) → (CanList g k (2 * k) [] → ⊥) → IsAtLeast g (k + 1)
+pub least_from_none : (g : Graph) (k : ℕ) → (CanList g k (2 * k) [] → ⊥) → IsSimplyAtLeast g (k + 1)
 least_from_none g k none c drawn = elim (cases_lt k c) [
   | inl more ↦ omega (arith, more)
   | inr few ↦ absurd (none (lists_from_at_most g k (c, drawn, few)))
 ]
 
 -- the search answers for all drawings
-pub says_within : (g : Graph) (k left : ℕ) (lists : List (List ℕ)) → left ≡ 2 * k → lists ≡ [] → (yes : Bool) → IsTrue yes ↔ CanList g k left lists → SaysWithin g k yes
-says_within g k left lists all none true found =
-    at_most_from_lists g k left (subst (CanList g k left) none (found.0 refl))
-says_within g k left lists all none false found =
-    least_from_none g k (λ can. both_ways false refl (found.1 (subst (CanList g k left) (sym none) (subst (λ m. CanList g k m []) (sym all) can))))
+pub says_within : LeastIsOfAllDrawings → MostIsOfAllDrawings → (g : Graph) → IsGraph g → (k left : ℕ) (lists : List (List ℕ)) → left ≡ 2 * k → lists ≡ [] → (yes : Bool) → IsTrue yes ↔ CanList g k left lists → SaysWithin g k yes
+says_within least most g is_graph k left lists all none true found =
+    (most g k is_graph).0 (at_most_from_lists g k left (subst (CanList g k left) none (found.0 refl)))
+says_within least most g is_graph k left lists all none false found =
+    (least g (k + 1) is_graph).0 (least_from_none g k (λ can. both_ways false refl (found.1 (subst (CanList g k left) (sym none) (subst (λ m. CanList g k m []) (sym all) can)))))

@@ -7,16 +7,20 @@ use crate::drawings::all_edges;
 use crate::lists::appended;
 use crate::rotations::are_drawn;
 use std::alloc::{AllocError, Global};
+use xn_general::laws::all_drawings;
 use xn_graph::Graph;
 use xn_kinds::Orders;
 
-/// Whether the graph has a drawing with at most so many crossings: if not, each of its drawings has more.
+/// Whether the graph has a drawing with at most so many crossings, simple or not: if not, each of its drawings has more.
 ///
+/// It looks for simple ones alone, since every drawing gives a simple one with no more crossings.
 /// It tries all orders with at most twice so many entries, and each rotation for them that keeps to the nodes. So its time
 /// grows faster than exponentially with the graph and with the number of crossings.
 pub fn has_drawing_within(alloc: Global, graph: &Graph, most: u32) -> Result<bool, AllocError>
     ensures { IfOk result (SaysWithin graph.now most) }
 {
+    all_drawings();
+    let _nodes = graph.nodes();
     let edges = all_edges(alloc, graph)?;
     let search = Search {
         graph,

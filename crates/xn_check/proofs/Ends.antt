@@ -12,6 +12,7 @@ use Rattle.xn_proof.proofs.Steps.{ok_is}
 use Rattle.xn_proof.specs.declared.item.Item.{Item}
 use Rattle.xn_proof.specs.declared.places.Place.{Place}
 use Rattle.xn_proof.specs.declared.places.Place.TheVariants as place
+use Rattle.xn_general.specs.Bounds.{SimpleDrawingsAreDrawings}
 use Rattle.xn_sound.specs.Laws.{AcceptedProofsBound}
 use Rattle.xn_check.specs.Laws.{AcceptedHasProof, AcceptedTextBounds, HasProofOf}
 use Rattle.xn_check.specs.Meaning.{Agrees}
@@ -72,9 +73,9 @@ pub accepted_has_proof : AcceptedHasProof
 accepted_has_proof g loops text lower upper verdict =
     judged g loops (text_lines text) start_state nothing_said (lower, upper) verdict (record { rows_hold = All-nil (RowHolds g); start = refl })
 
-pub accepted_text_bounds : AcceptedProofsBound → AcceptedTextBounds
-accepted_text_bounds bounds g loops text lower upper is_graph verdict =
+pub accepted_text_bounds : AcceptedProofsBound → SimpleDrawingsAreDrawings → AcceptedTextBounds
+accepted_text_bounds bounds drawn g loops text lower upper is_graph verdict =
     let p = accepted_has_proof g loops text lower upper verdict in (
       bounds g lower p.rows p.tree is_graph p.accepted,
-      (_, (order_of g p.lists, at p.next, p.drawing.drawing, refl), omega (arith, p.crossings)),
+      (_, drawn g _ is_graph (order_of g p.lists, at p.next, p.drawing.drawing, refl), omega (arith, p.crossings)),
     )

@@ -94,7 +94,7 @@ pub record HasProofOf (g : Graph) (lower upper : ℕ) : Type 0 where
 abbrev pub AcceptedHasProof : Type 0
 AcceptedHasProof = (g : Graph) (loops : ℕ) (text : List ℕ) (lower upper : ℕ) → Verdict g loops text (Ok (lower, upper)) → HasProofOf g lower upper
 
--- a text that is accepted bounds the crossing number of its graph from both sides
+-- a text that is accepted bounds the crossing number of its graph from both sides, over all drawings
 abbrev pub AcceptedTextBounds : Type 0
 AcceptedTextBounds =
     (g : Graph) (loops : ℕ) (text : List ℕ) (lower upper : ℕ) → IsGraph g → Verdict g loops text (Ok (lower, upper)) →

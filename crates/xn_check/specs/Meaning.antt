@@ -27,7 +27,7 @@ use Rattle.xn_check.specs.Said.{Said}
 
 -- ---- what has to be: lines up to `drawn`
 
--- the lists and turns are a drawing
+-- the lists and turns are a simple drawing
 abbrev pub HasDrawing : Graph → FrontSaid → Type 0
 HasDrawing g f = IsListedDrawing g f.lists f.next
 
@@ -73,7 +73,7 @@ Agrees g loops s line = DrawAgrees g loops s.front line
 
 -- ---- what else is wrong, first: lines up to `drawn`
 
--- it is no drawing, or one with another number of crossings than is said
+-- it is no simple drawing, or one with another number of crossings than is said
 abbrev pub DrawnFails : Graph → FrontSaid → FlawKind → Type 0
 DrawnFails g f kind =
     ((flaw : DrawFlaw) × IsFlaw g f.lists f.next flaw × (kind ≡ kinds.Draw flaw))

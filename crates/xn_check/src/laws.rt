@@ -2,6 +2,7 @@
 ghost use Rattle.xn_check.specs.Fitting.{FormsFitRows};
 ghost use Rattle.xn_check.specs.Laws.{AcceptedHasProof, AcceptedTextBounds, AcceptedWhereSpelled, DrawingsAreTaken, DrawnWhereSpelled, FrontsAreTaken, OneDrawVerdict, OneFrontVerdict, OneVerdict, ProofsAreTaken, SeenWhereSpelled};
 
+use xn_general::laws::all_drawings;
 use xn_sound::laws::accepted_proofs;
 
 /// A text that is accepted has a drawing and a proof.
@@ -9,10 +10,11 @@ pub fn accepted_texts()
     ensures { AcceptedHasProof }
 {}
 
-/// So it bounds the crossing number of its graph from both sides.
+/// So it bounds the crossing number of its graph from both sides, over all drawings, simple or not.
 pub fn accepted_bounds()
     ensures { AcceptedTextBounds }
 {
+    all_drawings();
     accepted_proofs();
 }
 

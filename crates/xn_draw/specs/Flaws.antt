@@ -1,4 +1,4 @@
--- What is first wrong with lists and turns that are said to be a drawing of a graph.
+-- What is first wrong with lists and turns that are said to be a simple drawing of a graph.
 use Rattle.std.specs.Prelude.{◌≡◌, ℕ, ◌+◌, ◌*◌, ◌<◌, ◌⊎◌, ◌↔◌, true, List, length}
 use Rattle.xn_model.specs.Drawing.{CrossesAt, IsListedDrawing, drawn_web, order_of}
 use Rattle.xn_model.specs.Graph.{Graph, IsGraph, edges_of}
@@ -46,7 +46,7 @@ pub record HasCrossings (g : Graph) (lists : List (List ℕ)) (next : List ℕ) 
   pub has_map : HasMap g lists next
   pub crosses : (e f : ℕ) → e < f → has (order_of g lists e) f ≡ true → CrossesAt (edges_of g) (order_of g lists) (at next) e f
 
--- this is the first flaw: what comes before it in this list is as in a drawing
+-- this is the first flaw: what comes before it in this list is as in a simple drawing
 abbrev pub IsFlaw : Graph → List (List ℕ) → List ℕ → DrawFlaw → Type 0
 IsFlaw g lists next Length = ¬ (HasLengths g lists next)
 IsFlaw g lists next (Order e f) =
@@ -58,12 +58,12 @@ IsFlaw g lists next (Touch e f) = HasMap g lists next × IsFirstTouch g lists ne
 IsFlaw g lists next (Genus counts) =
     HasCrossings g lists next × (counts ≡ euler_of (drawn_web g lists) (at next)) × ¬ (IsBalanced counts)
 
--- lists and turns are a drawing, or have a flaw
+-- lists and turns are a simple drawing, or have a flaw
 abbrev pub DrawnOrFlawed : Type 0
 DrawnOrFlawed =
     (g : Graph) (lists : List (List ℕ)) (next : List ℕ) → IsGraph g → IsListedDrawing g lists next ⊎ ((x : DrawFlaw) × IsFlaw g lists next x)
 
--- lists and turns are a drawing exactly where they have no flaw
+-- lists and turns are a simple drawing exactly where they have no flaw
 abbrev pub DrawnWhereFlawless : Type 0
 DrawnWhereFlawless =
     (g : Graph) (lists : List (List ℕ)) (next : List ℕ) → IsGraph g → IsListedDrawing g lists next ↔ ((x : DrawFlaw) → ¬ (IsFlaw g lists next x))

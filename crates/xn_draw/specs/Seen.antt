@@ -1,4 +1,4 @@
--- What is seen of a drawing, and why lists and turns are refused.
+-- What is seen of a simple drawing, and why lists and turns are refused.
 use Rattle.std.specs.Prelude.{◌≡◌, ℕ, List}
 use Rattle.xn_model.specs.Drawing.{IsListedDrawing, drawn_web, order_of}
 use Rattle.xn_model.specs.Graph.{Graph}
@@ -17,7 +17,7 @@ seen_of g lists next = record {
   euler = euler_of (drawn_web g lists) (at next);
 }
 
--- what is seen of a drawing
+-- what is seen of a simple drawing
 abbrev pub IsSeen : Graph → List (List ℕ) → List ℕ → Seen → Type 0
 IsSeen g lists next seen = IsListedDrawing g lists next × (seen ≡ seen_of g lists next)
 

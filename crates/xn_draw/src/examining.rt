@@ -15,7 +15,7 @@ use xn_kinds::{DrawFlaw, Drawing};
 use xn_map::{Map, MapErr};
 use xn_orders::{OrdersFlaw, orders_flaw, planarise};
 
-/// What is seen of a drawing of the graph, or its first flaw.
+/// What is seen of a simple drawing of the graph, or its first flaw.
 ///
 /// The flaws, in this order: lengths; entries that are out of order; dependent edges that cross; the rotation; edges that
 /// touch; the genus. It takes time near linear in the number of segments.

@@ -17,7 +17,7 @@ pub struct Seen {
 /// Why a drawing isn't seen.
 #[derive(Clone, Copy, Debug, PartialEq, Eq)]
 pub enum DrawErr {
-    /// It is no drawing of the graph, and this is its first flaw.
+    /// It is no simple drawing of the graph, and this is its first flaw.
     Flaw(DrawFlaw),
     /// There is no memory.
     Memory,

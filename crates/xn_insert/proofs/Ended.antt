@@ -25,7 +25,7 @@ use Rattle.xn_loose.proofs.MeetOnce.{distinct_if_once}
 use Rattle.xn_loose.proofs.Within as within
 use Rattle.xn_insert.specs.Calls.{IsInserted}
 use Rattle.xn_insert.specs.Cuts.{AreCut}
-use Rattle.xn_insert.specs.ListedLoose.{IsLooseOf, ListedLoose, edges_in, has_dart, loose_of, walk_of}
+use Rattle.xn_insert.specs.ListedLoose.{IsLooseOf, ListedLoose, edges_in, has_dart, loose_of, walk_of, MeetOnceIn}
 use Rattle.xn_insert.proofs.CutWalks.{has_dart-cut}
 use Rattle.xn_insert.proofs.Grown.{GrownTo, all, apart, cut, edges, is_graph, list, more_edges, u, v}
 
@@ -132,10 +132,10 @@ module _ (g : Graph) (l : ListedLoose) (is : IsLooseOf g l) (e : ℕ) (e_low : e
           let grown = st.nodes in
           loose_from_track g (all g l is e e_low new_edge) (is.further + done) web' (at m'.next) four' walks' (is_graph g l is e e_low new_edge) track (omega (arith, was, grown)) full.all_four full.have_darts full.all_walked
 
-      once' : EachMeetsOnce (all g l is e e_low new_edge) m'.web.ends walks'
-      once' x x_in = distinct_if_once m'.web.ends (walks' x) (λ k.
+      once' : MeetOnceIn l → EachMeetsOnce (all g l is e e_low new_edge) m'.web.ends walks'
+      once' once x x_in = distinct_if_once m'.web.ends (walks' x) (λ k.
           ins.single'' g (edges g l is e e_low new_edge) (all g l is e e_low new_edge) e (is_graph g l is e e_low new_edge) (list g l is e e_low new_edge) (more_edges g l is e e_low new_edge) e_low
-          m.web (at m.next) st.four st.name st.whole st.y st.b st.q (cut g l is e e_low new_edge cuts) own st.state st.z st.z_in st.at_z m'.web.ends (at m'.next) names W st.single x k x_in)
+          m.web (at m.next) st.four st.name st.whole st.y st.b st.q (cut g l is e e_low new_edge cuts) own st.state st.z st.z_in st.at_z m'.web.ends (at m'.next) names W (st.single once) x k x_in)
 
       pub grown_inserted : IsRouteLength l.map.web.ends (at l.map.next) (u g l is e e_low new_edge) (v g l is e e_low new_edge) done → (walks : List (List ℕ)) → AreCut cuts e own' l.walks walks →
           IsInserted g e l (loose_of l.nodes m' walks)
@@ -146,7 +146,8 @@ module _ (g : Graph) (l : ListedLoose) (is : IsLooseOf g l) (e : ℕ) (e_low : e
           let web_is : web' ≡ m'.web = ap (λ k. record { nodes = k; ends = m'.web.ends }) (sym inserts.0) in
           let loose1 = subst (λ web. IsLoose g (all g l is e e_low new_edge) (is.further + done) web (at m'.next) walks') web_is loose' in
           let loose2 = subst (λ f. IsLoose g (all g l is e e_low new_edge) (is.further + done) m'.web (at m'.next) f) ws loose1 in
-          let once2 = subst (λ f. EachMeetsOnce (all g l is e e_low new_edge) m'.web.ends f) ws once' in
+          let once2 : MeetOnceIn l → EachMeetsOnce (all g l is e e_low new_edge) m'.web.ends (walk_of walks) =
+          λ once. subst (λ f. EachMeetsOnce (all g l is e e_low new_edge) m'.web.ends f) ws (once' once) in
           let nodes : m'.web.nodes ≡ l.map.web.nodes + done = inserts.0 ∙ st.nodes in
           record {
             one_more = subst (IsOneMore (length g.ends) (edges_in l) e) (sym es) (more_edges g l is e e_low new_edge);
@@ -155,8 +156,8 @@ module _ (g : Graph) (l : ListedLoose) (is : IsLooseOf g l) (e : ℕ) (e_low : e
               lists = are.size ∙ is.lists;
               further = is.further + done;
               loose = subst (λ xs. IsLoose g xs (is.further + done) m'.web (at m'.next) (walk_of walks)) (sym es) loose2;
-              once = subst (λ xs. EachMeetsOnce xs m'.web.ends (walk_of walks)) (sym es) once2;
             };
+            once = λ once. subst (λ xs. EachMeetsOnce xs m'.web.ends (walk_of walks)) (sym es) (once2 once);
             joined = λ r other. let same = one_length l.map.web.ends (at l.map.next) _ _ r done other least in omega (arith, same, nodes);
             apart = λ far. let some = least.route in absurd (far (route_joins l.map.web.nodes l.map.web.ends (at l.map.next) is.loose.is_flat_map.is_map _ _ some.0 some.1));
           }

@@ -23,7 +23,7 @@ use Rattle.xn_loose.proofs.Inserted as ins
 use Rattle.xn_loose.proofs.IntoLoose.{exact_begun}
 use Rattle.xn_loose.proofs.MeetOnce.{Single}
 use Rattle.xn_insert.specs.Cuts.{cut_darts}
-use Rattle.xn_insert.specs.ListedLoose.{IsLooseOf, ListedLoose, edges_in, has_dart, walk_of}
+use Rattle.xn_insert.specs.ListedLoose.{IsLooseOf, ListedLoose, MeetOnceIn, edges_in, has_dart, walk_of}
 use Rattle.xn_insert.specs.Routed.{IsLeastRoute}
 use Rattle.xn_insert.proofs.CutWalks.{AreBelow, AreBeyond, none_cut}
 use Rattle.xn_insert.proofs.Started.{has-range, below_range}
@@ -53,7 +53,7 @@ pub record GrownTo (g : Graph) (l : ListedLoose) (e : ℕ) (m : ListedMap) (from
   pub q : ℕ
   pub state : State g (edges_in l) (ends_at g.ends e).0 m.web (at m.next) four name whole y b q (λ x. cut_darts cuts (walk_of l.walks x)) own
   pub exact : Exact g.nodes (edges_in l) m.web four y (λ x. cut_darts cuts (walk_of l.walks x)) own
-  pub single : Single (edges_in l) m.web name whole y (λ x. cut_darts cuts (walk_of l.walks x)) own
+  pub single : MeetOnceIn l → Single (edges_in l) m.web name whole y (λ x. cut_darts cuts (walk_of l.walks x)) own
   pub from_in : from < 2 * length m.web.ends
   pub to_in : to < 2 * length m.web.ends
   pub z_in : z < 2 * length m.web.ends
@@ -191,7 +191,7 @@ module _ (g : Graph) (l : ListedLoose) (is : IsLooseOf g l) (e : ℕ) (e_low : e
         q = y;
         state = subst (λ f. State g edges u l.map.web (at l.map.next) four r.name (λ c. true) y y y f []) same (ins.begun g edges e l.map.web (at l.map.next) four w is_graph track e_low r.name r.faces y y_in at_y);
         exact = subst (λ f. Exact g.nodes edges l.map.web four y f []) same (exact_begun g edges is.further l.map.web (at l.map.next) four w is.loose track y);
-        single = subst (λ f. Single edges l.map.web r.name (λ c. true) y f []) same (ins.single_begun edges l.map.web r.name y w is.once);
+        single = λ once. subst (λ f. Single edges l.map.web r.name (λ c. true) y f []) same (ins.single_begun edges l.map.web r.name y w once);
         from_in = from_in;
         to_in = to_in;
         z_in = map.permutes.below to to_in;

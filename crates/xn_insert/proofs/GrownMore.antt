@@ -22,7 +22,7 @@ use Rattle.xn_loose.proofs.Growing.{Exact, State, ex, exact_stepped, now_cases, 
 use Rattle.xn_loose.proofs.Inserted as ins
 use Rattle.xn_loose.proofs.MeetOnce.{Single, single_stepped}
 use Rattle.xn_insert.specs.Cuts.{StepsOver, cut_darts}
-use Rattle.xn_insert.specs.ListedLoose.{IsLooseOf, ListedLoose, edges_in, walk_of}
+use Rattle.xn_insert.specs.ListedLoose.{IsLooseOf, ListedLoose, edges_in, walk_of, MeetOnceIn}
 use Rattle.xn_insert.proofs.CutWalks.{AreBelow, AreBeyond, beyond_more, cut_more, ex_beyond}
 use Rattle.xn_insert.proofs.Grown as grown
 use Rattle.xn_insert.proofs.Grown.{GrownTo, apart}
@@ -220,9 +220,9 @@ module _ (g : Graph) (l : ListedLoose) (is : IsLooseOf g l) (e : ℕ) (e_low : e
           let R : List ℕ → Type 0 = λ o. Exact g.nodes edges m'.web four' (dart_back last d) (cut cuts') o in
           subst R own_is (subst Q walks_are (subst P web_is base))
 
-      new_single : Single edges m'.web names whole' (dart_back last d) (cut cuts') own'
-      new_single =
-          let base = single_stepped g edges distinct u m.web next st.four st.name st.whole st.y st.b st.q (cut cuts) own st.state d d_in m'.web.ends (at m'.next) names A is_whole one_name st.single in
+      new_single : MeetOnceIn l → Single edges m'.web names whole' (dart_back last d) (cut cuts') own'
+      new_single once =
+          let base = single_stepped g edges distinct u m.web next st.four st.name st.whole st.y st.b st.q (cut cuts) own st.state d d_in m'.web.ends (at m'.next) names A is_whole one_name (st.single once) in
           let P : Graph → Type 0 = λ web. Single edges web names whole' (dart_back last d) (λ x. ex (d / 2) (length m.web.ends) (cut cuts x))
           (ex (d / 2) (length m.web.ends) own ++ (2 * suc (length m.web.ends)) ∷ []) in
           let Q : (ℕ → List ℕ) → Type 0 = λ f. Single edges m'.web names whole' (dart_back last d) f (ex (d / 2) (length m.web.ends) own ++ (2 * suc (length m.web.ends)) ∷ []) in

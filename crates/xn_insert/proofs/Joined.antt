@@ -20,7 +20,7 @@ use Rattle.xn_loose.proofs.RoutesThere.{routes_are_there}
 use Rattle.xn_loose.proofs.Shortest.{simple_crosses}
 use Rattle.xn_loose.proofs.Within.{faces_have_names}
 use Rattle.xn_insert.specs.Calls.{IsInserted}
-use Rattle.xn_insert.specs.ListedLoose.{IsLooseOf, ListedLoose, edges_in, loose_of, walk_of}
+use Rattle.xn_insert.specs.ListedLoose.{IsLooseOf, ListedLoose, edges_in, loose_of, walk_of, MeetOnceIn}
 use Rattle.xn_insert.specs.Routed.{HasNoRoute}
 use Rattle.xn_insert.proofs.CutWalks.{none_cut}
 use Rattle.xn_insert.proofs.Ended.{edges_then}
@@ -120,9 +120,9 @@ module _ (g : Graph) (l : ListedLoose) (is : IsLooseOf g l) (e : ℕ) (e_low : e
           let moved = subst (λ w. IsLoose g edges' is.further w (at m.next) walks') web_is turned in
           subst (λ f. IsLoose g edges' is.further m.web (at m.next) f) walks_are moved
 
-      once' : EachMeetsOnce edges' m.web.ends (walk_of lists)
-      once' =
-          let base = joining.joined_once g (edges_in l) edges' e is.further l.map.web (at l.map.next) (walk_of l.walks) is.loose (more_edges g l is e e_low new_edge) e_low not_joined from' to' is.once in
+      once' : MeetOnceIn l → EachMeetsOnce edges' m.web.ends (walk_of lists)
+      once' once =
+          let base = joining.joined_once g (edges_in l) edges' e is.further l.map.web (at l.map.next) (walk_of l.walks) is.loose (more_edges g l is e e_low new_edge) e_low not_joined from' to' once in
           let moved = subst (λ w. EachMeetsOnce edges' w.ends walks') web_is base in
           subst (λ f. EachMeetsOnce edges' m.web.ends f) walks_are moved
 
@@ -139,8 +139,8 @@ module _ (g : Graph) (l : ListedLoose) (is : IsLooseOf g l) (e : ℕ) (e_low : e
               lists = length-set l.walks e (2 * length l.map.web.ends ∷ []) ∙ is.lists;
               further = is.further;
               loose = subst (λ xs. IsLoose g xs is.further m.web (at m.next) (walk_of lists)) (sym es) loose';
-              once = subst (λ xs. EachMeetsOnce xs m.web.ends (walk_of lists)) (sym es) once';
             };
+            once = λ once. subst (λ xs. EachMeetsOnce xs m.web.ends (walk_of lists)) (sym es) (once' once);
             joined = λ r least. let some = least.route in absurd (none some.0 some.1);
             apart = λ far. inserts.0;
           }

@@ -10,6 +10,8 @@ pub mod Fronts
 pub mod Grown
 pub mod GrownMore
 pub mod Joined
+pub mod Judged
+pub mod JudgedSteps
 pub mod Nearest
 pub mod Rounds
 pub mod Started

@@ -18,8 +18,8 @@ use Rattle.xn_fewer.proofs.Rising.{Rising, distinct-rising, has-all, rises-filte
 use Rattle.xn_map.specs.Listed.{ListedMap}
 use Rattle.xn_track.proofs.Places.{all_not, has-at}
 use Rattle.xn_loose.specs.Inserting.{EachMeetsOnce}
-use Rattle.xn_loose.specs.Webs.{darts_from, walk_in_web}
-use Rattle.xn_loose.proofs.Webs.{drawings_are_loose}
+use Rattle.xn_general.specs.Webs.{darts_from, walk_in_web}
+use Rattle.xn_general.proofs.Webs.{drawings_are_loose}
 use Rattle.xn_insert.specs.Calls.{DrawsKept, IsStarted}
 use Rattle.xn_insert.specs.ListedLoose.{ListedLoose, edges_in, has_dart, loose_of, walk_of}
 use Rattle.xn_insert.specs.Starting.{AreWalksInWeb, AreWalksUpTo, segments_along, walk_listed}
@@ -217,8 +217,8 @@ started g kept lists map walks is_graph list draws are =
         loose =
             subst (λ es. IsLoose g es (length (crossings_of kept ord)) map.web (at map.next) (walk_of walks)) (sym in_it)
             (subst (λ w. IsLoose g kept (length (crossings_of kept ord)) w (at map.next) (walk_of walks)) (sym draws.web) loose);
-        once = subst (λ es. EachMeetsOnce es map.web.ends (walk_of walks)) (sym in_it) (subst (λ w. EachMeetsOnce kept w.ends (walk_of walks)) (sym draws.web) once);
       };
+      once = subst (λ es. EachMeetsOnce es map.web.ends (walk_of walks)) (sym in_it) (subst (λ w. EachMeetsOnce kept w.ends (walk_of walks)) (sym draws.web) once);
     }
 
 -- ---- whether all are in

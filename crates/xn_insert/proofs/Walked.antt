@@ -16,8 +16,8 @@ use Rattle.xn_fewer.proofs.Rising.{Rising, has-all, rising-from_increasing}
 use Rattle.xn_track.proofs.Blocks.{at_place, place, place-first_segment, place-same, size_of}
 use Rattle.xn_track.proofs.Places.{has-at, positions_apart}
 use Rattle.xn_loose.specs.Inserting.{EachMeetsOnce}
-use Rattle.xn_loose.specs.Webs.{walk_in_web}
-use Rattle.xn_loose.proofs.InWeb.{at-map, darts-length, darts_at, through-length, through_first, through_mid}
+use Rattle.xn_general.specs.Webs.{walk_in_web}
+use Rattle.xn_general.proofs.InWeb.{at-map, darts-length, darts_at, through-length, through_first, through_mid}
 
 -- a list whose places are told apart by their numbers has no repeats
 pub distinct_by_places : (xs : List ℕ) → ((i j : ℕ) → i < length xs → j < length xs → at xs i ≡ at xs j → i ≡ j) → IsDistinct nat_eq xs

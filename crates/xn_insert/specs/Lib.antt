@@ -1,5 +1,6 @@
 pub mod Calls
 pub mod Cuts
+pub mod Judged
 pub mod ListedLoose
 pub mod Routed
 pub mod Search

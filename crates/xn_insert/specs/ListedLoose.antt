@@ -37,10 +37,13 @@ edges_in l = filter (λ e. has_dart (walk_of l.walks e)) (range_with_len 0 (leng
 abbrev pub HasFurtherNodes : ListedLoose → ℕ → Type 0
 HasFurtherNodes l c = l.map.web.nodes ≡ l.nodes + c
 
--- a loose drawing of the edges of g that are in, in which no walk meets a node twice
+-- no walk meets a node twice
+abbrev pub MeetOnceIn : ListedLoose → Type 0
+MeetOnceIn l = EachMeetsOnce (edges_in l) l.map.web.ends (walk_of l.walks)
+
+-- a loose drawing of the edges of g that are in: walks may meet anyhow, and one may meet itself
 pub record IsLooseOf (g : Graph) (l : ListedLoose) : Type 0 where
   pub nodes : l.nodes ≡ g.nodes
   pub lists : length l.walks ≡ length g.ends
   pub further : ℕ
   pub loose : IsLoose g (edges_in l) further l.map.web (at l.map.next) (walk_of l.walks)
-  pub once : EachMeetsOnce (edges_in l) l.map.web.ends (walk_of l.walks)

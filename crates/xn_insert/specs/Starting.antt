@@ -2,7 +2,7 @@
 use Rattle.std.specs.Prelude.{◌≡◌, ℕ, suc, List, [], length, if◌then◌else◌, take}
 use Rattle.xn_model.specs.Graph.{Graph}
 use Rattle.xn_model.specs.Lists.{has, total}
-use Rattle.xn_loose.specs.Webs.{walk_in_web}
+use Rattle.xn_general.specs.Webs.{walk_in_web}
 use Rattle.xn_insert.specs.ListedLoose.{walk_of}
 
 -- the number of segments of the listed edges

@@ -2,13 +2,17 @@
 #![tactic(auto)]
 
 mod faces;
+mod flaws;
 mod growing;
+mod judging;
+pub mod laws;
 mod loose;
 mod routes;
 mod searching;
 mod starting;
 mod walks;
 
+pub use flaws::{LooseErr, LooseFlaw};
 pub use loose::Loose;
 pub use walks::Walks;
 

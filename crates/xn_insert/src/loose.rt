@@ -6,6 +6,7 @@ ghost use Rattle.xn_insert.specs.ListedLoose.{HasFurtherNodes, edges_in};
 
 mod inserting;
 mod looking;
+mod making;
 
 use crate::starting::walks_in_web;
 use crate::walks::Walks;
@@ -18,7 +19,7 @@ use xn_map::Map;
 /// A loose drawing of some edges of a graph: a map of its nodes and of further ones, in which each edge that is in is a
 /// walk from its first to its second end.
 ///
-/// Two walks cross at each further node. Edges may cross often, also such with a common end; no walk meets a node twice.
+/// Two walks cross at each further node, or one crosses itself. Edges may cross often, also such with a common end.
 /// Contracts see the number of nodes of the graph, the map and the walks.
 #[derive(Drop)]
 pub struct Loose {
@@ -40,7 +41,8 @@ impl Model for Loose {
 
 impl Loose {
     /// The loose drawing of the kept edges, whose map is that of their planarised graph: so it has a crossing for each of
-    /// the orders' own. The kept edges rise, and orders and map are a drawing of them. It fails only for want of memory.
+    /// the orders' own, and no walk meets a node twice. The kept edges rise, and orders and map are a drawing of them. It
+    /// fails only for want of memory.
     pub fn start(
         alloc: Global,
         graph: &Graph,

@@ -2,7 +2,7 @@
 ghost use Rattle.std.specs.Prelude.{◌≡◌, ◌+◌, ◌^◌, ◌<◌, [], IfOk, length, replicate};
 ghost use Rattle.xn_list.specs.Lists.{lists_of};
 ghost use Rattle.xn_model.specs.Orders.{IsOrders, order_at};
-ghost use Rattle.xn_loose.specs.Webs.{darts_from};
+ghost use Rattle.xn_general.specs.Webs.{darts_from};
 ghost use Rattle.xn_insert.specs.Starting.{AreWalksInWeb};
 
 use std::alloc::{AllocError, Global};

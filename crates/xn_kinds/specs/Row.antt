@@ -1,4 +1,4 @@
--- The values of a drawing, and rows: what their value is, and where they hold.
+-- The values of a simple drawing, and rows: what their value is, and where they hold.
 use Rattle.std.specs.Prelude.{◌≡◌, ℕ, ◌+◌, ◌-◌, List, length, if◌then◌else◌, nat_lt}
 use Rattle.xn_model.specs.Evidence.{IsFive, IsThreeThree}
 use Rattle.xn_model.specs.Graph.{Graph, pairs_of}
@@ -15,7 +15,7 @@ pub record Values : Type 0 where
   pub crosses : ℕ → ℕ → ℕ
   pub before : ℕ → ℕ → ℕ → ℕ
 
--- the values in a drawing: 1 where e and f cross, and where f and g cross e, f before g
+-- the values in a simple drawing: 1 where e and f cross, and where f and g cross e, f before g
 abbrev pub values_in : (ℕ → List ℕ) → Values
 values_in ord = record {
   crosses = λ e f. one_if (has (ord e) f);

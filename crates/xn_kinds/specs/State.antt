@@ -1,4 +1,4 @@
--- Given states: what is decided of a drawing, and its box of values.
+-- Given states: what is decided of a simple drawing, and its box of values.
 use Rattle.std.specs.Prelude.{◌≡◌, ℕ, ◌<◌, ◌≤◌, ◌⊎◌, ◌==◌, ◌&&◌, Bool, true, List, [], Option, Some, None, length, filter, insert, if◌then◌else◌, nat_eq}
 use Rattle.std.specs.List.{IsDistinct}
 use Rattle.xn_model.specs.Graph.{Graph, Independent}

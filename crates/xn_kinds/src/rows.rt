@@ -100,7 +100,7 @@ impl Evidence {
     }
 }
 
-/// A row: orders over some edges, with evidence that no drawing has just these crossings among them.
+/// A row: orders over some edges, with evidence that no simple drawing has just these crossings among them.
 #[derive(Debug, Drop)]
 pub struct Row {
     /// The edges, rising.

@@ -2,7 +2,7 @@
 use Rattle.std.proofs.Common.{◌≡◌, ℕ, zero, suc, ◌+◌, ◌<◌, ◌≤◌, inl, inr, Bool, true, false, not, ◌&&◌, eqb, List, [], ◌∷◌, ◌++◌, length, map, refl, sym, ◌∙◌, ap, ap₂, subst, arith}
 use Rattle.std.specs.List.{filter, flat_map, range_with_len}
 use Rattle.std.proofs.lemmas.Bool.{cases_eq, cases_lt, cases_order, cases_Bool, both_ways, cond-true, cond-false, eq-eqb, or_left}
-use Rattle.xn_model.specs.Drawing.{IsDrawing}
+use Rattle.xn_model.specs.Drawing.{IsSimpleDrawing}
 use Rattle.xn_model.specs.Graph.{Graph, each_two, edges_of, ends_at, independent, touches}
 use Rattle.xn_model.specs.Lists.{has}
 use Rattle.xn_model.specs.Map.{IsFlat}
@@ -107,7 +107,7 @@ module _ (g : Graph) (ord : ℕ → List ℕ) (orders : IsOrders g.ends (edges_o
           let on : a + 1 + i ≡ a + suc i = omega arith in
           ap f on ∙ each (suc i) (omega (arith, i_in))))
 
-pub flat_where_none_cross : (g : Graph) (ord : ℕ → List ℕ) (next : ℕ → ℕ) → IsDrawing g ord next → crossing_count g ord ≡ 0 → IsFlat g next
+pub flat_where_none_cross : (g : Graph) (ord : ℕ → List ℕ) (next : ℕ → ℕ) → IsSimpleDrawing g ord next → crossing_count g ord ≡ 0 → IsFlat g next
 flat_where_none_cross g ord next drawing none =
     let P : Graph → Type 0 = λ web. IsFlat web next in
     subst P (same_web g ord drawing.orders none) drawing.is_flat_map

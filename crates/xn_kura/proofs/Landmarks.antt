@@ -1,26 +1,25 @@
--- K5 and K3,3: no flat map, and the crossing number of K5.
+-- K5 and K3,3: no flat map, and no simple drawing without crossings.
 use Rattle.std.proofs.Common.{ℕ, ◌<◌, ◌⊎◌, ◌∙◌, inl, inr, List, [], ◌∷◌, refl, arith, rules}
 use Rattle.std.specs.Cmp.{nat_eq_equiv}
 use Rattle.std.proofs.lemmas.Bool.{cases_eq}
 use Rattle.std.proofs.lemmas.List.Elements.{All-from_recursion}
 use Rattle.std.proofs.lemmas.Map.Made.{IsDistinct-from_count}
-use Rattle.xn_model.specs.Drawing.{IsCrossingNumber, IsAtLeast}
+use Rattle.xn_model.specs.Drawing.{IsSimplyAtLeast}
 use Rattle.xn_model.specs.Evidence.{IsFive, IsThreeThree}
 use Rattle.xn_model.specs.Examples.{k33, k5}
 use Rattle.xn_model.specs.Graph.{Graph}
 use Rattle.xn_model.specs.Map.{IsFlat}
-use Rattle.xn_model.proofs.Examples.{k5_with_one_crossing}
 use Rattle.xn_kura.proofs.CrossingFree.{flat_where_none_cross}
 use Rattle.xn_kura.proofs.Excludes.{no_flat_five, no_flat_three_three}
 use Rattle.xn_kura.specs.Laws.{KuratowskiGraphs}
 
-least_one : (g : Graph) → ((next : ℕ → ℕ) → ¬ IsFlat g next) → IsAtLeast g 1
+least_one : (g : Graph) → ((next : ℕ → ℕ) → ¬ IsFlat g next) → IsSimplyAtLeast g 1
 least_one g never c drawing = elim (cases_eq c 0) [
   | inl none ↦ absurd (never drawing.1 (flat_where_none_cross g drawing.0 drawing.1 drawing.2 (drawing.3 ∙ none)))
   | inr some ↦ omega (arith, some)
 ]
 
-pub least_by_evidence : (g : Graph) (branch : List ℕ) (paths : List (List ℕ)) → IsFive g branch paths ⊎ IsThreeThree g branch paths → IsAtLeast g 1
+pub least_by_evidence : (g : Graph) (branch : List ℕ) (paths : List (List ℕ)) → IsFive g branch paths ⊎ IsThreeThree g branch paths → IsSimplyAtLeast g 1
 least_by_evidence g branch paths (inl is) = least_one g (no_flat_five g branch paths is)
 least_by_evidence g branch paths (inr is) = least_one g (no_flat_three_three g branch paths is)
 
@@ -53,6 +52,3 @@ of_kuratowski = record {
   k5_crosses = least_by_evidence k5 _ _ (inl k5_is_five);
   k33_crosses = least_by_evidence k33 _ _ (inr k33_is_three_three);
 }
-
-pub k5_has_one_crossing : IsCrossingNumber k5 1
-k5_has_one_crossing = record { least = of_kuratowski.k5_crosses; at_most = k5_with_one_crossing.at_most_one }

@@ -1,7 +1,7 @@
 -- What evidence shows.
 use Rattle.std.specs.Prelude.{◌≡◌, ℕ, ◌<◌, ◌⊎◌, true, List, length, nat_eq, reverse}
 use Rattle.std.specs.List.{IsDistinct}
-use Rattle.xn_model.specs.Drawing.{IsCrossingNumber, IsDrawing, IsAtLeast}
+use Rattle.xn_model.specs.Drawing.{IsSimpleDrawing, IsSimplyAtLeast}
 use Rattle.xn_model.specs.Evidence.{IsPathSystem}
 use Rattle.xn_model.specs.Examples.{k33, k5}
 use Rattle.xn_model.specs.Graph.{Graph}
@@ -30,27 +30,23 @@ abbrev pub EvidenceExcludesFlat : Type 0
 EvidenceExcludesFlat =
     (web : Graph) (evidence : Evidence) → HasAKind evidence → EvidenceHolds web evidence → (next : ℕ → ℕ) → ¬ IsFlat web next
 
--- a drawing without crossings is a flat map of the graph itself
+-- a simple drawing without crossings is a flat map of the graph itself
 abbrev pub CrossingFreeIsFlat : Type 0
 CrossingFreeIsFlat =
-    (g : Graph) (ord : ℕ → List ℕ) (next : ℕ → ℕ) → IsDrawing g ord next → crossing_count g ord ≡ 0 → IsFlat g next
+    (g : Graph) (ord : ℕ → List ℕ) (next : ℕ → ℕ) → IsSimpleDrawing g ord next → crossing_count g ord ≡ 0 → IsFlat g next
 
--- so an evidence of either kind for the graph shows that each drawing has a crossing
+-- so an evidence of either kind for the graph shows that each simple drawing has a crossing
 abbrev pub EvidenceOfCrossings : Type 0
 EvidenceOfCrossings =
     (g : Graph) (branch : List ℕ) (paths : List (List ℕ)) →
-    EvidenceHolds g (Five branch paths) ⊎ EvidenceHolds g (ThreeThree branch paths) → IsAtLeast g 1
+    EvidenceHolds g (Five branch paths) ⊎ EvidenceHolds g (ThreeThree branch paths) → IsSimplyAtLeast g 1
 
--- neither K5 nor K3,3 has a flat map, and every drawing of theirs has a crossing
+-- neither K5 nor K3,3 has a flat map, and every simple drawing of theirs has a crossing
 pub record KuratowskiGraphs : Type 0 where
   pub k5_not_flat : (next : ℕ → ℕ) → ¬ IsFlat k5 next
   pub k33_not_flat : (next : ℕ → ℕ) → ¬ IsFlat k33 next
-  pub k5_crosses : IsAtLeast k5 1
-  pub k33_crosses : IsAtLeast k33 1
-
--- the crossing number of K5 is one
-abbrev pub K5HasOneCrossing : Type 0
-K5HasOneCrossing = IsCrossingNumber k5 1
+  pub k5_crosses : IsSimplyAtLeast k5 1
+  pub k33_crosses : IsSimplyAtLeast k33 1
 
 -- a path of u to v, or that path turned round
 abbrev pub IsPathOrTurned : ℕ → List ℕ → ℕ → ℕ → List ℕ → ℕ → Type 0

@@ -16,10 +16,10 @@ use Rattle.xn_loose.proofs.Growing.{Exact}
 use Rattle.xn_loose.proofs.Inserted.{come_in}
 use Rattle.xn_loose.proofs.MeetOnce.{distinct_if_once}
 use Rattle.xn_loose.proofs.OneMore.{one_more_low}
-use Rattle.xn_loose.proofs.InWeb.{count_listed}
+use Rattle.xn_general.proofs.InWeb.{count_listed}
 use Rattle.xn_track.proofs.Loose.{crossing_by_count, loose_drawings_are_tracks}
 use Rattle.xn_track.proofs.Relink.{at_node}
-use Rattle.xn_loose.proofs.Fours.{four_distinct, listed_has, of_four}
+use Rattle.xn_general.proofs.Fours.{four_distinct, listed_has, of_four}
 
 -- where a number passes there is one
 some_passes : (m : ℕ) (t : ℕ → Bool) → 1 ≤ count_below m t → (d : ℕ) × (d < m) × (t d ≡ true)

@@ -1,8 +1,6 @@
 pub mod Across
 pub mod Divide
-pub mod Fours
 pub mod Growing
-pub mod InWeb
 pub mod Inserted
 pub mod IntoLoose
 pub mod Joining
@@ -15,6 +13,4 @@ pub mod Renamed
 pub mod RoutesThere
 pub mod Shortest
 pub mod SomeDivision
-pub mod Touch
-pub mod Webs
 pub mod Within

@@ -17,8 +17,8 @@ use Rattle.xn_track.proofs.Passes.{Gap, begin, dart_gap, gap_high, gap_in, one_g
 use Rattle.xn_track.proofs.Simplify.{tracks_give_drawings}
 use Rattle.xn_track.proofs.Tally.{times-flat_map}
 use Rattle.xn_loose.specs.Parts.{PartsGiveDrawings, WalksGiveDrawings, all_passed, passed_twice}
-use Rattle.xn_loose.specs.Webs.{darts_from}
-use Rattle.xn_loose.proofs.InWeb.{at_most_once, darts-length, darts_at, goes_from, walks_from}
+use Rattle.xn_general.specs.Webs.{darts_from}
+use Rattle.xn_general.proofs.InWeb.{at_most_once, darts-length, darts_at, goes_from, walks_from}
 use Rattle.xn_loose.proofs.OneMore.{within_total}
 
 -- ---- how often a number stands in a list

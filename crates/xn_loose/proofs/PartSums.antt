@@ -1,14 +1,15 @@
 -- Parts without a common edge: their crossings add up to no more than those of all.
-use Rattle.std.proofs.Common.{◌≡◌, ℕ, zero, suc, ◌+◌, ◌*◌, ◌≤◌, inl, inr, Bool, true, eqb, ltb, List, [], ◌∷◌, ◌++◌, length, refl, sym, ap, subst, arith}
+use Rattle.std.proofs.Common.{◌≡◌, ℕ, zero, suc, ◌+◌, ◌*◌, ◌<◌, ◌≤◌, inl, inr, Bool, true, eqb, ltb, List, [], ◌∷◌, ◌++◌, length, map, refl, sym, ap, subst, arith}
 use Rattle.std.specs.List.{flat_map}
 use Rattle.std.specs.Prelude.{All}
 use Rattle.std.proofs.lemmas.Bool.{cases_Bool, ltb-true}
 use Rattle.xn_model.specs.Drawing.{IsAtLeast}
-use Rattle.xn_model.specs.Graph.{Graph, IsGraph, edges_of}
+use Rattle.xn_model.specs.Graph.{EndsIn, Graph, HasNoLoop, IsGraph, edges_of, ends_at}
 use Rattle.xn_model.specs.Lists.{has, one_if, total}
 use Rattle.xn_model.specs.Loose.{IsLoose}
 use Rattle.xn_model.specs.Orders.{IsEdgeList, crossings_of}
 use Rattle.xn_model.specs.Permutation.{count_below}
+use Rattle.xn_genus.proofs.Kept.{EndsIn_at}
 use Rattle.xn_fewer.proofs.Has.{has-left, has-right}
 use Rattle.xn_fewer.proofs.Rising.{distinct-rising, rising-from_increasing}
 use Rattle.xn_track.specs.Track.{IsTrack, passed}
@@ -18,7 +19,7 @@ use Rattle.xn_loose.specs.Renaming.{subgraph_of}
 use Rattle.xn_loose.proofs.OneMore.{within_total}
 use Rattle.xn_loose.proofs.OnlyWalked.{at_most_two, count_of, none_low, parts_give_drawings}
 use Rattle.xn_loose.proofs.Renamed.{drawings_of_edges_are_drawings}
-use Rattle.xn_loose.proofs.Webs.{drawings_are_loose}
+use Rattle.xn_general.proofs.Bounds.{simple_drawings_are_drawings}
 
 -- ---- sums
 
@@ -111,6 +112,23 @@ crossings_add_up g all further web next walks loose parts are =
     subst (λ n. total (λ part. count_below n (passed_twice part web.ends walks)) parts ≤ further) (sym loose.nodes)
     (high_sum g all web next t.0 walks loose.is_graph t.1 parts are further)
 
+-- ---- the graph of a part
+
+ends_in_again : (nodes : ℕ) (ends : List (ℕ × ℕ)) → EndsIn nodes ends → (edges : List ℕ) → All (λ e. e < length ends) edges → EndsIn nodes (map (ends_at ends) edges)
+ends_in_again nodes ends ends_in [] low = tt
+ends_in_again nodes ends ends_in (e ∷ edges) low =
+    let here = EndsIn_at nodes ends ends_in e (low 0 e (omega arith)) in
+    (here.0, here.1, ends_in_again nodes ends ends_in edges (λ i d i_in. low (suc i) d (omega (arith, i_in))))
+
+no_loop_again : (ends : List (ℕ × ℕ)) → HasNoLoop ends → (edges : List ℕ) → All (λ e. e < length ends) edges → HasNoLoop (map (ends_at ends) edges)
+no_loop_again ends none [] low i i_in = absurd (omega (arith, i_in))
+no_loop_again ends none (e ∷ edges) low zero i_in = none e (low 0 e (omega arith))
+no_loop_again ends none (e ∷ edges) low (suc i) i_in = no_loop_again ends none edges (λ j d j_in. low (suc j) d (omega (arith, j_in))) i (omega (arith, i_in))
+
+pub subgraph_is_graph : (g : Graph) → IsGraph g → (edges : List ℕ) → All (λ e. e < length g.ends) edges → IsGraph (subgraph_of g edges)
+subgraph_is_graph g is_graph edges low =
+    record { ends_in = ends_in_again g.nodes g.ends is_graph.ends_in edges low; no_loop = no_loop_again g.ends is_graph.no_loop edges low }
+
 -- each part's bound holds of the nodes that its walks pass twice
 bounds_below : (g : Graph) (all : List ℕ) (further : ℕ) (web : Graph) (next : ℕ → ℕ) (walks : ℕ → List ℕ) → IsLoose g all further web next walks → (low : List ℕ → ℕ) (parts : List (List ℕ)) →
     All (IsEdgeList (length g.ends)) parts → ((e : ℕ) → has (flat_map (λ part. part) parts) e ≡ true → has all e ≡ true) → All (λ part. IsAtLeast (subgraph_of g part) (low part)) parts →
@@ -119,7 +137,9 @@ bounds_below g all further web next walks loose low [] lists within bounds = ome
 bounds_below g all further web next walks loose low (part ∷ parts) lists within bounds =
     let drawn = parts_give_drawings g all part further web next walks loose (lists 0 part (omega arith)) (λ e e_in. within e (has-left part (flat_map (λ p. p) parts) e e_in)) in
     let own = drawings_of_edges_are_drawings g part drawn.0 drawn.1 drawn.2 in
-    let here = bounds 0 part (omega arith) (length (crossings_of part drawn.0)) (_, drawn.1, own.0, own.1) in
+    let own_graph = subgraph_is_graph g loose.is_graph part (lists 0 part (omega arith)).below in
+    let as_drawing = simple_drawings_are_drawings (subgraph_of g part) (length (crossings_of part drawn.0)) own_graph (_, drawn.1, own.0, own.1) in
+    let here = bounds 0 part (omega arith) (length (crossings_of part drawn.0)) as_drawing in
     let few = drawn.3 in
     let rest = bounds_below g all further web next walks loose low parts (λ i p i_in. lists (suc i) p (omega (arith, i_in)))
     (λ e e_in. within e (has-right part (flat_map (λ p. p) parts) e e_in)) (λ i p i_in. bounds (suc i) p (omega (arith, i_in))) in
@@ -127,9 +147,6 @@ bounds_below g all further web next walks loose low (part ∷ parts) lists withi
 
 pub bounds_add_up : BoundsAddUp
 bounds_add_up g parts low is_graph are bounds c d =
-    let drawing = d.2 in
-    let loose = drawings_are_loose g (edges_of g) d.0 d.1 is_graph (record { orders = drawing.orders; is_flat_map = drawing.is_flat_map; crosses = drawing.crosses }) in
-    let below = bounds_below g (edges_of g) _ _ d.1 _ loose low parts are.edge_lists are.within bounds in
-    let most = crossings_add_up g (edges_of g) _ _ d.1 _ loose parts are in
-    let count = d.3 in
-    omega (arith, below, most, count)
+    let below = bounds_below g (edges_of g) c d.0 d.1 d.2 d.3 low parts are.edge_lists are.within bounds in
+    let most = crossings_add_up g (edges_of g) c d.0 d.1 d.2 d.3 parts are in
+    omega (arith, below, most)

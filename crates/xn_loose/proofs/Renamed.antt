@@ -7,7 +7,7 @@ use Rattle.std.proofs.lemmas.List.{get_or_default, length-map}
 use Rattle.std.proofs.lemmas.List.FromFn.{length-range_with_len, get_or-range_with_len}
 use Rattle.std.proofs.lemmas.List.Folds.{flat_map-map}
 use Rattle.std.proofs.Math.ListN.{get_or-map}
-use Rattle.xn_model.specs.Drawing.{CrossesAt, IsDrawing}
+use Rattle.xn_model.specs.Drawing.{CrossesAt, IsSimpleDrawing}
 use Rattle.xn_model.specs.Graph.{EndsIn, Graph, each_two, ends_at, touches}
 use Rattle.xn_model.specs.Lists.{at, has, position_in}
 use Rattle.xn_model.specs.Map.{IsFlat}
@@ -21,7 +21,7 @@ use Rattle.xn_fewer.proofs.Rising.{Rising, all_made, all_of, distinct-rising, ri
 use Rattle.xn_loose.specs.Renaming.{DrawingsOfEdgesAreDrawings, subgraph_of, renumbered}
 use Rattle.xn_track.specs.Tidying.{IsDrawingOfEdges}
 use Rattle.xn_track.proofs.Places.{all_not, has-at, has-mapped, positions_apart}
-use Rattle.xn_loose.proofs.InWeb.{at-map, at_position}
+use Rattle.xn_general.proofs.InWeb.{at-map, at_position}
 use Rattle.xn_track.proofs.RunsOfAll.{has-range, map-map}
 
 abbrev both : (ℕ → ℕ) → ℕ × ℕ → ℕ × ℕ
@@ -306,7 +306,7 @@ module _ (g : Graph) (edges : List ℕ) (ord : ℕ → List ℕ) (next : ℕ →
     both_ways = λ i j t. let is = from_less i j t in to_less j i is.1 is.0 (orders.both_ways (f i) (f j) is.2);
   }
 
-  pub own_drawing : IsDrawing h less next
+  pub own_drawing : IsSimpleDrawing h less next
   own_drawing = record {
     orders = less_orders;
     is_flat_map = subst (λ w. IsFlat w next) same_web drawing.is_flat_map;

@@ -1,5 +1,3 @@
-pub mod Touching
-pub mod Webs
 pub mod Routes
 pub mod Inserting
 pub mod Renaming

@@ -1,6 +1,6 @@
 -- Some edges of a graph as a graph of their own.
 use Rattle.std.specs.Prelude.{◌≡◌, ℕ, List, [], length, map, if◌then◌else◌, nat_lt}
-use Rattle.xn_model.specs.Drawing.{IsDrawing}
+use Rattle.xn_model.specs.Drawing.{IsSimpleDrawing}
 use Rattle.xn_model.specs.Graph.{Graph, ends_at}
 use Rattle.xn_model.specs.Lists.{at, position_in}
 use Rattle.xn_model.specs.Orders.{crossing_count, crossings_of}
@@ -18,5 +18,5 @@ renumbered edges ord i = if nat_lt i (length edges) then map (position_in edges)
 abbrev pub DrawingsOfEdgesAreDrawings : Type 0
 DrawingsOfEdgesAreDrawings =
     (g : Graph) (edges : List ℕ) (ord : ℕ → List ℕ) (next : ℕ → ℕ) → IsDrawingOfEdges g edges ord next →
-    IsDrawing (subgraph_of g edges) (renumbered edges ord) next
+    IsSimpleDrawing (subgraph_of g edges) (renumbered edges ord) next
     × (crossing_count (subgraph_of g edges) (renumbered edges ord) ≡ length (crossings_of edges ord))

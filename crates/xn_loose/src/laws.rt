@@ -4,21 +4,6 @@ ghost use Rattle.xn_loose.specs.Parts.{BoundsAddUp, CrossingsAddUp, PartsGiveDra
 ghost use Rattle.xn_loose.specs.Renaming.{DrawingsOfEdgesAreDrawings};
 ghost use Rattle.xn_loose.specs.Routes.{FacesHaveNames, StepsAcross, StepsWithin};
 ghost use Rattle.xn_loose.specs.Shortest.{EdgesComeInByLeastRoutes, LeastRoutesAreSimple, RouteLengthsAreThere, RoutesAreThere, RoutesBecomeSimple, SimpleRoutesAreRoutes};
-ghost use Rattle.xn_loose.specs.Touching.{MeshesGiveDrawings};
-ghost use Rattle.xn_loose.specs.Webs.{DrawingsAreLoose, LeastIsOfAllDrawings, TouchingOrdersGiveDrawings, WebsAreMeshes};
-
-/// Where walks touch they come apart, so that a drawing is left.
-pub fn touching()
-    ensures { MeshesGiveDrawings }
-{}
-
-/// A planarised graph is a mesh and a drawing a loose one, so what bounds the simple drawings bounds all.
-pub fn drawings_in_webs()
-    ensures meshes { WebsAreMeshes }
-    ensures loose { DrawingsAreLoose }
-    ensures touching { TouchingOrdersGiveDrawings }
-    ensures least { LeastIsOfAllDrawings }
-{}
 
 /// A new edge steps across a segment within a face: flat stays flat, and the other faces stay as they are.
 pub fn routes()

@@ -1,4 +1,4 @@
-//! Loose drawings: what they have to do with simple ones, and how an edge comes in along a route.
+//! Loose drawings of some edges: how an edge comes in along a route, and how bounds of parts add up.
 #![tactic(auto)]
 
 pub mod laws;

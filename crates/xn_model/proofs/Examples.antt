@@ -1,19 +1,20 @@
 -- The worked examples.
-use Rattle.std.proofs.Common.{◌≡◌, ℕ, zero, suc, ◌<◌, ◌≤◌, inl, inr, true, false, eqb, List, [], ◌∷◌, refl, subst, arith, rules}
-use Rattle.std.specs.Prelude.{nat_eq}
-use Rattle.std.specs.List.{IsDistinct}
-use Rattle.std.proofs.lemmas.Bool.{both_ways, or_cases, eqb-true}
+use Rattle.std.proofs.Common.{◌≡◌, ◌≢◌, ℕ, zero, suc, ◌*◌, ◌<◌, ◌≤◌, inl, inr, true, false, eqb, List, [], ◌∷◌, length, refl, sym, ap, subst, arith, rules}
+use Rattle.std.specs.Prelude.{◌==◌, nat_eq}
+use Rattle.std.specs.List.{IsDistinct, flat_map}
+use Rattle.std.proofs.lemmas.Bool.{both_ways, cases_eq, cases_lt, or_cases, eqb-true}
 use Rattle.std.proofs.lemmas.Map.Made.{IsDistinct-from_count}
 use Rattle.std.specs.Cmp.{nat_eq_equiv}
-use Rattle.xn_model.specs.Examples.{k4, k4_turns, K4IsFlat, K4OnTorus, k5, k5_orders, k5_web, k5_turns, K5WithOneCrossing, one_edge, curled_web, curled_turns, CurledEdge, parted_web, parted_turns, PartedNodes, SmallCycles, nothing, LimitOfNothing}
+use Rattle.xn_model.specs.Examples.{k4, k4_turns, K4IsFlat, K4OnTorus, k5, k5_orders, k5_walks, k5_web, k5_turns, K5WithOneCrossing, one_edge, curled_web, curled_turns, CurledEdge, parted_web, parted_turns, PartedNodes, SmallCycles, nothing, LimitOfNothing}
 use Rattle.xn_model.specs.Cycles.{IsCycle}
-use Rattle.xn_model.specs.Drawing.{CrossesAt, IsDrawing, order_of}
+use Rattle.xn_model.specs.Drawing.{CrossesAt, HasDrawingWith, IsDrawing, IsSimpleDrawing, order_of}
 use Rattle.xn_model.specs.Graph.{HasNoLoop, Independent, edges_of, ends_at, pair_count_of}
 use Rattle.xn_model.specs.Limit.{node_limit}
 use Rattle.xn_model.specs.Lists.{has, at}
-use Rattle.xn_model.specs.Loose.{MeetsOnce, dart_count, times_walked}
-use Rattle.xn_model.specs.Map.{WalksTo}
+use Rattle.xn_model.specs.Loose.{GoesStraight, MeetsOnce, dart_count, times_walked}
+use Rattle.xn_model.specs.Map.{WalksTo, tail_of}
 use Rattle.xn_model.specs.Orders.{IsOrders}
+use Rattle.xn_model.specs.Permutation.{count_below}
 use Rattle.xn_model.proofs.Decide.{map_of_test}
 use Rattle.xn_model.proofs.Ranges.{edge_list, has-range_past, order_at_outside}
 
@@ -79,11 +80,78 @@ orders = record {
   both_ways = by_pair (λ e f. has (ord f) e ≡ true) refl refl;
 }
 
-drawing : IsDrawing k5 ord (at k5_turns)
-drawing = record {
+simple_drawing : IsSimpleDrawing k5 ord (at k5_turns)
+simple_drawing = record {
   orders = orders;
   is_flat_map = record { is_map = map_of_test k5_web (at k5_turns) refl; flat = refl };
   crosses = λ e f less h. by_pair (λ x y. x < y → CrossesAt (edges_of k5) ord (at k5_turns) x y) (λ l. refl) (λ l. absurd (omega (arith, l))) e f h less;
+}
+
+-- ---- the same as a loose drawing
+
+by_edge : (P : ℕ → Type 0) → P 0 → P 1 → P 2 → P 3 → P 4 → P 5 → P 6 → P 7 → P 8 → P 9 → (e : ℕ) → e < 10 → P e
+by_edge P p0 p1 p2 p3 p4 p5 p6 p7 p8 p9 zero low = p0
+by_edge P p0 p1 p2 p3 p4 p5 p6 p7 p8 p9 (suc zero) low = p1
+by_edge P p0 p1 p2 p3 p4 p5 p6 p7 p8 p9 (suc (suc zero)) low = p2
+by_edge P p0 p1 p2 p3 p4 p5 p6 p7 p8 p9 (suc (suc (suc zero))) low = p3
+by_edge P p0 p1 p2 p3 p4 p5 p6 p7 p8 p9 (suc (suc (suc (suc zero)))) low = p4
+by_edge P p0 p1 p2 p3 p4 p5 p6 p7 p8 p9 (suc (suc (suc (suc (suc zero))))) low = p5
+by_edge P p0 p1 p2 p3 p4 p5 p6 p7 p8 p9 (suc (suc (suc (suc (suc (suc zero)))))) low = p6
+by_edge P p0 p1 p2 p3 p4 p5 p6 p7 p8 p9 (suc (suc (suc (suc (suc (suc (suc zero))))))) low = p7
+by_edge P p0 p1 p2 p3 p4 p5 p6 p7 p8 p9 (suc (suc (suc (suc (suc (suc (suc (suc zero)))))))) low = p8
+by_edge P p0 p1 p2 p3 p4 p5 p6 p7 p8 p9 (suc (suc (suc (suc (suc (suc (suc (suc (suc zero))))))))) low = p9
+by_edge P p0 p1 p2 p3 p4 p5 p6 p7 p8 p9 (suc (suc (suc (suc (suc (suc (suc (suc (suc (suc e)))))))))) low = absurd (omega (arith, low))
+
+below_twelve : (P : ℕ → Type 0) → P 0 → P 1 → P 2 → P 3 → P 4 → P 5 → P 6 → P 7 → P 8 → P 9 → P 10 → P 11 → (s : ℕ) → s < 12 → P s
+below_twelve P p0 p1 p2 p3 p4 p5 p6 p7 p8 p9 p10 p11 zero low = p0
+below_twelve P p0 p1 p2 p3 p4 p5 p6 p7 p8 p9 p10 p11 (suc zero) low = p1
+below_twelve P p0 p1 p2 p3 p4 p5 p6 p7 p8 p9 p10 p11 (suc (suc zero)) low = p2
+below_twelve P p0 p1 p2 p3 p4 p5 p6 p7 p8 p9 p10 p11 (suc (suc (suc zero))) low = p3
+below_twelve P p0 p1 p2 p3 p4 p5 p6 p7 p8 p9 p10 p11 (suc (suc (suc (suc zero)))) low = p4
+below_twelve P p0 p1 p2 p3 p4 p5 p6 p7 p8 p9 p10 p11 (suc (suc (suc (suc (suc zero))))) low = p5
+below_twelve P p0 p1 p2 p3 p4 p5 p6 p7 p8 p9 p10 p11 (suc (suc (suc (suc (suc (suc zero)))))) low = p6
+below_twelve P p0 p1 p2 p3 p4 p5 p6 p7 p8 p9 p10 p11 (suc (suc (suc (suc (suc (suc (suc zero))))))) low = p7
+below_twelve P p0 p1 p2 p3 p4 p5 p6 p7 p8 p9 p10 p11 (suc (suc (suc (suc (suc (suc (suc (suc zero)))))))) low = p8
+below_twelve P p0 p1 p2 p3 p4 p5 p6 p7 p8 p9 p10 p11 (suc (suc (suc (suc (suc (suc (suc (suc (suc zero))))))))) low = p9
+below_twelve P p0 p1 p2 p3 p4 p5 p6 p7 p8 p9 p10 p11 (suc (suc (suc (suc (suc (suc (suc (suc (suc (suc zero)))))))))) low = p10
+below_twelve P p0 p1 p2 p3 p4 p5 p6 p7 p8 p9 p10 p11 (suc (suc (suc (suc (suc (suc (suc (suc (suc (suc (suc zero))))))))))) low = p11
+below_twelve P p0 p1 p2 p3 p4 p5 p6 p7 p8 p9 p10 p11 (suc (suc (suc (suc (suc (suc (suc (suc (suc (suc (suc (suc s)))))))))))) low = absurd (omega (arith, low))
+
+edge_low : (e : ℕ) → has (edges_of k5) e ≡ true → e < 10
+edge_low e h = elim (cases_lt e 10) [
+  | inl low ↦ low
+  | inr past ↦ absurd (both_ways _ (has-range_past 0 10 e (omega (arith, past))) h)
+]
+
+walks_to : (e : ℕ) → has (edges_of k5) e ≡ true → WalksTo k5_web.ends (ends_at k5.ends e).0 (k5_walks e) (ends_at k5.ends e).1
+walks_to e h = by_edge (λ x. WalksTo k5_web.ends (ends_at k5.ends x).0 (k5_walks x) (ends_at k5.ends x).1)
+    (omega arith, refl, (omega arith, refl, refl)) (omega arith, refl, refl) (omega arith, refl, refl) (omega arith, refl, refl) (omega arith, refl, refl)
+    (omega arith, refl, refl) (omega arith, refl, refl) (omega arith, refl, refl) (omega arith, refl, refl) (omega arith, refl, (omega arith, refl, refl))
+    e (edge_low e h)
+
+goes_straight : (e : ℕ) → has (edges_of k5) e ≡ true → GoesStraight 5 k5_web.ends (at k5_turns) (k5_walks e)
+goes_straight e h = by_edge (λ x. GoesStraight 5 k5_web.ends (at k5_turns) (k5_walks x))
+    (omega arith, refl, tt) tt tt tt tt tt tt tt tt (omega arith, refl, tt) e (edge_low e h)
+
+five_alone : (v : ℕ) → 5 ≤ v → v < 6 → dart_count k5_web.ends v ≡ 4
+five_alone v low high = let is : 5 ≡ v = omega (arith, low, high) in subst (λ w. dart_count k5_web.ends w ≡ 4) is refl
+
+k5_has_no_loop : HasNoLoop k5.ends
+k5_has_no_loop e low = by_edge (λ x. (ends_at k5.ends x).0 ≢ (ends_at k5.ends x).1)
+    (λ h. omega (arith, h)) (λ h. omega (arith, h)) (λ h. omega (arith, h)) (λ h. omega (arith, h)) (λ h. omega (arith, h))
+    (λ h. omega (arith, h)) (λ h. omega (arith, h)) (λ h. omega (arith, h)) (λ h. omega (arith, h)) (λ h. omega (arith, h))
+    e low
+
+drawing : IsDrawing k5 1 k5_web (at k5_turns) k5_walks
+drawing = record {
+  is_graph = record { ends_in = search (rules, arith); no_loop = k5_has_no_loop };
+  edge_list = edge_list 10;
+  nodes = refl;
+  is_flat_map = record { is_map = map_of_test k5_web (at k5_turns) refl; flat = refl };
+  lead = walks_to;
+  straight = goes_straight;
+  once = below_twelve (λ s. times_walked s (flat_map k5_walks (edges_of k5)) ≡ 1) refl refl refl refl refl refl refl refl refl refl refl refl;
+  four = five_alone;
 }
 
 pub k5_with_one_crossing : K5WithOneCrossing
@@ -96,8 +164,10 @@ k5_with_one_crossing = record {
   crosses = refl;
   touches = λ h. omega (arith, h);
   count = refl;
-  drawing = record { lists_fit = refl; next_fits = refl; drawing = drawing };
-  at_most_one = (1, (ord, at k5_turns, drawing, refl), omega arith);
+  simple_drawing = record { lists_fit = refl; next_fits = refl; drawing = simple_drawing };
+  simply_at_most_one = (1, (ord, at k5_turns, simple_drawing, refl), omega arith);
+  drawing = drawing;
+  at_most_one = (1, (k5_web, at k5_turns, k5_walks, drawing), omega arith);
   limit = refl;
 }
 
@@ -126,18 +196,22 @@ one_edge_has_two : HasNoLoop one_edge.ends
 one_edge_has_two zero low same = omega (arith, same)
 one_edge_has_two (suc e) low same = absurd (omega (arith, low))
 
+curled : IsDrawing one_edge 1 curled_web (at curled_turns) (λ e. 0 ∷ 2 ∷ 4 ∷ [])
+curled = record {
+  is_graph = record { ends_in = search (rules, arith); no_loop = one_edge_has_two };
+  edge_list = edge_list 1;
+  nodes = refl;
+  is_flat_map = record { is_map = map_of_test curled_web (at curled_turns) refl; flat = refl };
+  lead = λ e h. subst (λ x. WalksTo curled_web.ends (ends_at one_edge.ends x).0 (0 ∷ 2 ∷ 4 ∷ []) (ends_at one_edge.ends x).1) (only 0 e h) leads;
+  straight = λ e h. (omega arith, refl, (omega arith, refl, tt));
+  once = walked_once;
+  four = four_darts;
+}
+
 pub curled_edge : CurledEdge
 curled_edge = record {
-  loose = record {
-    is_graph = record { ends_in = search (rules, arith); no_loop = one_edge_has_two };
-    edge_list = edge_list 1;
-    nodes = refl;
-    is_flat_map = record { is_map = map_of_test curled_web (at curled_turns) refl; flat = refl };
-    lead = λ e h. subst (λ x. WalksTo curled_web.ends (ends_at one_edge.ends x).0 (0 ∷ 2 ∷ 4 ∷ []) (ends_at one_edge.ends x).1) (only 0 e h) leads;
-    straight = λ e h. (omega arith, refl, (omega arith, refl, tt));
-    once = walked_once;
-    four = four_darts;
-  };
+  loose = curled;
+  drawing = (curled_web, at curled_turns, (λ e. 0 ∷ 2 ∷ 4 ∷ []), curled);
   twice = twice;
   left_out = λ l. omega (arith, l.once 1 (omega arith));
   touching = λ l. omega (arith, (l.straight 0 refl).1);
@@ -164,26 +238,35 @@ small_cycles = record { triangle = triangle; parallel = parallel; no_way_back = 
 
 -- ---- no node at all
 
-no_orders : IsOrders nothing.ends [] (λ e. [])
-unfolding IsDistinct
-no_orders = record {
+nothing_drawn : IsDrawing nothing 0 nothing (λ d. d) (λ e. [])
+nothing_drawn = record {
+  is_graph = record { ends_in = search (rules, arith); no_loop = λ e low. absurd (omega (arith, low)) };
   edge_list = edge_list 0;
-  within = λ e f h. absurd (both_ways false refl h);
-  no_repeats = λ e. tt;
-  independent = λ e f h. absurd (both_ways false refl h);
-  both_ways = λ e f h. absurd (both_ways false refl h);
+  nodes = refl;
+  is_flat_map = record { is_map = map_of_test nothing (λ d. d) refl; flat = refl };
+  lead = λ e h. absurd (both_ways false refl h);
+  straight = λ e h. absurd (both_ways false refl h);
+  once = λ s low. absurd (omega (arith, low));
+  four = λ v low high. absurd (omega (arith, high));
 }
 
-no_drawing : IsDrawing nothing (λ e. []) (λ d. d)
-no_drawing = record {
-  orders = no_orders;
-  is_flat_map = record { is_map = map_of_test nothing (λ d. d) refl; flat = refl };
-  crosses = λ e f less h. absurd (both_ways false refl h);
-}
+-- a further node would have darts, whose segments no edge walks
+nothing_crosses : (c : ℕ) → HasDrawingWith nothing c → c ≡ 0
+nothing_crosses zero drawn = refl
+nothing_crosses (suc c) drawn =
+    let web = drawn.0 in
+    let loose = drawn.3 in
+    elim (cases_eq (length web.ends) 0) [
+      | inl none ↦
+          let four = loose.four 0 (omega arith) (let is = loose.nodes in omega (arith, is)) in
+          let no_dart : dart_count web.ends 0 ≡ 0 = ap (λ n. count_below (2 * n) (λ d. tail_of web.ends d == 0)) none in
+          omega (arith, four, no_dart)
+      | inr some ↦ omega (arith, loose.once 0 (omega (arith, some)))
+    ]
 
 pub limit_of_nothing : LimitOfNothing
 limit_of_nothing = record {
   limit = refl;
-  below = λ c d. subst (λ x. 2 < node_limit (pair_count_of nothing) x) d.3 (omega arith);
-  not_below = λ h. omega (arith, h 0 ((λ e. []), (λ d. d), no_drawing, refl));
+  below = λ c d. subst (λ x. 2 < node_limit (pair_count_of nothing) x) (sym (nothing_crosses c d)) (omega arith);
+  not_below = λ h. omega (arith, h 0 (nothing, (λ d. d), (λ e. []), nothing_drawn));
 }

@@ -1,7 +1,8 @@
--- Drawings, and the crossing number by all of them.
+-- Simple drawings, drawings of any kind, and the crossing number by all of them.
 use Rattle.std.specs.Prelude.{◌≡◌, ℕ, ◌+◌, ◌*◌, ◌<◌, ◌≤◌, true, List, length}
 use Rattle.xn_model.specs.Graph.{Graph, edges_of}
 use Rattle.xn_model.specs.Lists.{has, position_in, at}
+use Rattle.xn_model.specs.Loose.{IsLoose}
 use Rattle.xn_model.specs.Map.{IsFlat}
 use Rattle.xn_model.specs.Orders.{IsOrders, order_at, crossing_count}
 use Rattle.xn_model.specs.Web.{web_of, first_segment}
@@ -12,8 +13,8 @@ CrossesAt edges ord next e f =
     let before = first_segment edges ord e + position_in (ord e) f in
     next (next (2 * before + 1)) ≡ 2 * (before + 1)
 
--- the map of the planarised graph is flat, and the edges cross at each crossing
-pub record IsDrawing (g : Graph) (ord : ℕ → List ℕ) (next : ℕ → ℕ) : Type 0 where
+-- a simple drawing: the map of the planarised graph is flat, and the edges cross at each crossing
+pub record IsSimpleDrawing (g : Graph) (ord : ℕ → List ℕ) (next : ℕ → ℕ) : Type 0 where
   pub orders : IsOrders g.ends (edges_of g) ord
   pub is_flat_map : IsFlat (web_of g (edges_of g) ord) next
   pub crosses : (e f : ℕ) → e < f → has (ord e) f ≡ true → CrossesAt (edges_of g) ord next e f
@@ -26,15 +27,21 @@ order_of g lists = order_at (edges_of g) lists
 abbrev pub drawn_web : Graph → List (List ℕ) → Graph
 drawn_web g lists = web_of g (edges_of g) (order_of g lists)
 
--- one list for each edge and two turns for each segment, and they are a drawing
+-- one list for each edge and two turns for each segment, and they are a simple drawing
 pub record IsListedDrawing (g : Graph) (lists : List (List ℕ)) (next : List ℕ) : Type 0 where
   pub lists_fit : length lists ≡ length g.ends
   pub next_fits : length next ≡ 2 * length (drawn_web g lists).ends
-  pub drawing : IsDrawing g (order_of g lists) (at next)
+  pub drawing : IsSimpleDrawing g (order_of g lists) (at next)
+
+-- ---- drawings, simple or not
+
+-- a loose drawing of all edges, whose crossings are its c further nodes: edges may cross themselves, and each other anyhow
+abbrev pub IsDrawing : Graph → ℕ → Graph → (ℕ → ℕ) → (ℕ → List ℕ) → Type 0
+IsDrawing g c web next walks = IsLoose g (edges_of g) c web next walks
 
 -- some drawing has c crossings
 abbrev pub HasDrawingWith : Graph → ℕ → Type 0
-HasDrawingWith g c = (ord : ℕ → List ℕ) × (next : ℕ → ℕ) × IsDrawing g ord next × (crossing_count g ord ≡ c)
+HasDrawingWith g c = (web : Graph) × (next : ℕ → ℕ) × (walks : ℕ → List ℕ) × IsDrawing g c web next walks
 
 -- every drawing has at least k crossings
 abbrev pub IsAtLeast : Graph → ℕ → Type 0
@@ -48,3 +55,17 @@ IsAtMost g k = (c : ℕ) × HasDrawingWith g c × (c ≤ k)
 pub record IsCrossingNumber (g : Graph) (k : ℕ) : Type 0 where
   pub least : IsAtLeast g k
   pub at_most : IsAtMost g k
+
+-- ---- of simple drawings alone
+
+-- some simple drawing has c crossings
+abbrev pub HasSimpleDrawingWith : Graph → ℕ → Type 0
+HasSimpleDrawingWith g c = (ord : ℕ → List ℕ) × (next : ℕ → ℕ) × IsSimpleDrawing g ord next × (crossing_count g ord ≡ c)
+
+-- every simple drawing has at least k crossings
+abbrev pub IsSimplyAtLeast : Graph → ℕ → Type 0
+IsSimplyAtLeast g k = (c : ℕ) → HasSimpleDrawingWith g c → k ≤ c
+
+-- some simple drawing has at most k crossings
+abbrev pub IsSimplyAtMost : Graph → ℕ → Type 0
+IsSimplyAtMost g k = (c : ℕ) × HasSimpleDrawingWith g c × (c ≤ k)

@@ -1,7 +1,7 @@
 -- Worked examples of the definitions.
 use Rattle.std.specs.Prelude.{◌≡◌, ℕ, List, [], ◌∷◌}
 use Rattle.xn_model.specs.Cycles.{IsCycle}
-use Rattle.xn_model.specs.Drawing.{CrossesAt, IsAtMost, IsListedDrawing, order_of}
+use Rattle.xn_model.specs.Drawing.{CrossesAt, HasDrawingWith, IsAtMost, IsDrawing, IsListedDrawing, IsSimplyAtMost, order_of}
 use Rattle.xn_model.specs.Graph.{Graph, edges_of, pairs_of, pair_count_of}
 use Rattle.xn_model.specs.Lists.{at}
 use Rattle.xn_model.specs.Limit.{IsBelowLimit, node_limit}
@@ -52,6 +52,10 @@ k5_turns = 6 ∷ 22 ∷ 21 ∷ 14 ∷ 8 ∷ 16 ∷ 4 ∷ 20 ∷ 0 ∷ 19 ∷ 12 
 abbrev pub k5_touching_turns : List ℕ
 k5_touching_turns = 6 ∷ 21 ∷ 1 ∷ 14 ∷ 8 ∷ 16 ∷ 4 ∷ 20 ∷ 0 ∷ 19 ∷ 12 ∷ 18 ∷ 3 ∷ 17 ∷ 10 ∷ 23 ∷ 11 ∷ 7 ∷ 5 ∷ 15 ∷ 13 ∷ 22 ∷ 2 ∷ 9 ∷ []
 
+-- the walks of its edges
+abbrev pub k5_walks : ℕ → List ℕ
+k5_walks = order_of k5 ((0 ∷ 2 ∷ []) ∷ (4 ∷ []) ∷ (6 ∷ []) ∷ (8 ∷ []) ∷ (10 ∷ []) ∷ (12 ∷ []) ∷ (14 ∷ []) ∷ (16 ∷ []) ∷ (18 ∷ []) ∷ (20 ∷ 22 ∷ []) ∷ [])
+
 -- K5 with one crossing: its web, its faces, a drawing
 pub record K5WithOneCrossing : Type 0 where
   pub nodes : k5_web.nodes ≡ 6
@@ -62,7 +66,9 @@ pub record K5WithOneCrossing : Type 0 where
   pub crosses : CrossesAt (edges_of k5) (order_of k5 k5_orders) (at k5_turns) 0 9
   pub touches : ¬ (CrossesAt (edges_of k5) (order_of k5 k5_orders) (at k5_touching_turns) 0 9)
   pub count : crossing_count k5 (order_of k5 k5_orders) ≡ 1
-  pub drawing : IsListedDrawing k5 k5_orders k5_turns
+  pub simple_drawing : IsListedDrawing k5 k5_orders k5_turns
+  pub simply_at_most_one : IsSimplyAtMost k5 1
+  pub drawing : IsDrawing k5 1 k5_web (at k5_turns) k5_walks
   pub at_most_one : IsAtMost k5 1
   pub limit : node_limit (pair_count_of k5) 1 ≡ 82208
 
@@ -96,9 +102,11 @@ curled_turns = 0 ∷ 3 ∷ 4 ∷ 2 ∷ 1 ∷ 5 ∷ []
 abbrev pub bent_turns : List ℕ
 bent_turns = 0 ∷ 2 ∷ 3 ∷ 4 ∷ 1 ∷ 5 ∷ []
 
--- the edge goes round its loop; it is no loose drawing where the loop is left out, or where it touches itself
+-- the edge goes round its loop, and that is a drawing with a crossing; it is no loose drawing where the loop is left out, or where it
+-- touches itself
 pub record CurledEdge : Type 0 where
   pub loose : IsLoose one_edge (0 ∷ []) 1 curled_web (at curled_turns) (λ e. 0 ∷ 2 ∷ 4 ∷ [])
+  pub drawing : HasDrawingWith one_edge 1
   pub twice : ¬ (MeetsOnce curled_web.ends (0 ∷ 2 ∷ 4 ∷ []))
   pub left_out : ¬ (IsLoose one_edge (0 ∷ []) 1 curled_web (at curled_turns) (λ e. 0 ∷ 4 ∷ []))
   pub touching : ¬ (IsLoose one_edge (0 ∷ []) 1 curled_web (at bent_turns) (λ e. 0 ∷ 2 ∷ 4 ∷ []))

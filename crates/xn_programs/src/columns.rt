@@ -172,9 +172,14 @@ impl Columns {
         sum
     }
 
-    /// Whether the value of a row at the point is below 1.
-    pub fn is_missed(&self, terms: &[Term]) -> bool {
-        self.sum(terms) < ONE - NEAR
+    /// The value of a row at the point, where that is below 1.
+    pub fn missed_value(&self, terms: &[Term]) -> Option<i64> {
+        let value = self.sum(terms);
+        if value < ONE - NEAR {
+            Some(value)
+        } else {
+            None
+        }
     }
 
     /// Whether some value is at least 1/2 and below 1.

@@ -90,7 +90,7 @@ impl<'a, P: Planes> ByPrograms<'a, P> {
         if let Some(leaf) = leaf {
             return Ok(leaf);
         }
-        let greatest = self.hints.greatest(claim.graph, pairs);
+        let greatest = self.hints.greatest(alloc, claim.graph, pairs)?;
         if let Some((e, f)) = open_of(claim.graph, given, greatest) {
             return Ok(Node::Pair(e, f));
         }

@@ -85,9 +85,18 @@ impl Hints {
         point_of(alloc, graph, pairs, &self.lines, self.program.columns())
     }
 
-    /// Those of the known rows come in that are missed most: whether there were some.
+    /// Those of the known rows come in that are missed most: whether there were some. Where the numbers of the
+    /// table have drifted, it is made anew instead.
     pub fn add_missed(&mut self, alloc: Global) -> Result<bool, AllocError> {
+        if self.program.has_drifted(&self.lines) && self.renew(alloc)? {
+            return Ok(true);
+        }
         self.program.add_missed(alloc, &self.lines)
+    }
+
+    /// The table of the program is made anew, at most twice in a state: whether it was.
+    pub fn renew(&mut self, alloc: Global) -> Result<bool, AllocError> {
+        self.program.renew(alloc, &self.lines)
     }
 
     /// What a row is worth that isn't among the known ones; it is noted as if it were the next one.
@@ -97,7 +106,8 @@ impl Hints {
         if !self.lines.is_last_new() {
             return Ok(Worth::Nothing);
         }
-        if self.program.columns().is_missed(self.lines.at(number)) {
+        let terms = self.lines.at(number);
+        if self.program.columns().missed_value(terms).is_some() {
             Ok(Worth::Now)
         } else {
             Ok(Worth::Later)
@@ -119,20 +129,30 @@ impl Hints {
         self.program.add(&self.lines, number)
     }
 
-    /// The first of the undecided pairs with the greatest value at the point, if that isn't 0.
-    pub fn greatest(&self, graph: &Graph, pairs: &[(u32, u32)]) -> Option<(u32, u32)> {
+    /// An undecided pair with the greatest value at the point, if that isn't 0: of several the first one with the
+    /// greatest sum of prices of its rows.
+    pub fn greatest(
+        &self,
+        alloc: Global,
+        graph: &Graph,
+        pairs: &[(u32, u32)],
+    ) -> Result<Option<(u32, u32)>, AllocError> {
         let columns = self.program.columns();
-        let mut most = 0;
+        let sums = self.program.sums_of_prices(alloc, &self.lines)?;
+        let mut most = (0, 0);
         let mut found = None;
         for (e, f) in pairs {
             let variable = pair_number(graph.edges(), *e, *f);
-            let value = columns.value(variable);
-            if value > most && matches!(columns.entry(variable), Entry::Column(_)) {
-                most = value;
-                found = Some((*e, *f));
+            if let Entry::Column(column) = columns.entry(variable) {
+                let sum = sums.get(column as usize).copied().unwrap_or(0);
+                let worth = (columns.value(variable), sum);
+                if worth.0 > 0 && worth > most {
+                    most = worth;
+                    found = Some((*e, *f));
+                }
             }
         }
-        found
+        Ok(found)
     }
 
     /// The state is opened by the node: its children begin with the rows that bind.

@@ -11,6 +11,8 @@ mod lines;
 mod points;
 mod programs;
 mod solving;
+#[cfg(test)]
+mod tests;
 mod turns;
 
 pub use deciding::ByPrograms;

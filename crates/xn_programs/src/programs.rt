@@ -15,6 +15,10 @@ const MOST_ROWS: u32 = 200;
 const AT_ONCE: usize = 10;
 /// By how much the value has to pass the greatest number of crossings that is to be excluded.
 const MARGIN: i64 = ONE / 500;
+/// By how much a row of the table may be missed at its own point, a ten thousandth.
+const DRIFT: i64 = ONE / 10_000;
+/// How often the table of a state is made anew.
+const MOST_RENEWALS: u32 = 2;
 
 /// The program of a state.
 #[derive(Drop)]
@@ -23,6 +27,10 @@ pub struct Program {
     columns: Columns,
     // for each row of the table the number of the known row
     numbers: Vec<u32>,
+    // for each known row, up to the last of these, whether it is one of them
+    marks: Vec<bool>,
+    // how often the table was made anew in this state
+    renewals: u32,
     // a known row whose value is 0 in the box
     hopeless: Option<u32>,
     // the terms of the row that is written
@@ -38,6 +46,8 @@ impl Program {
             table: Table::new(alloc),
             columns: Columns::new(alloc),
             numbers: Vec::new(alloc),
+            marks: Vec::new(alloc),
+            renewals: 0,
             hopeless: None,
             line: Vec::new(alloc),
             pair_numbers: 0,
@@ -54,8 +64,8 @@ impl Program {
     ) -> Result<(), AllocError>
         requires { given.now.graph ≡ graph.now }
     {
-        self.table.clear();
-        self.numbers.clear();
+        self.clear();
+        self.renewals = 0;
         self.hopeless = None;
         self.pair_numbers = graph.edges().wrapping_mul(graph.edges());
         self.columns.begin(graph, given, pairs, lines)
@@ -134,6 +144,27 @@ impl Program {
         Ok(parts)
     }
 
+    /// For each column the sum of the prices of the rows in which it stands.
+    pub fn sums_of_prices(&self, alloc: Global, lines: &Lines) -> Result<Vec<i64>, AllocError> {
+        let mut sums = vec![in alloc; 0; self.columns.variables().len()]?;
+        for (i, number) in self.numbers.iter().enumerate() {
+            let price = self.table.price(row_number(i));
+            for term in lines.at(*number as usize) {
+                self.add_price(term.variable, price, sums.as_mut_slice());
+            }
+        }
+        Ok(sums)
+    }
+
+    // A price comes to the sum of the column of a variable, where it has one.
+    fn add_price(&self, variable: u32, price: i64, sums: &mut [i64]) {
+        if let Entry::Column(column) = self.columns.entry(variable) {
+            if let Some(sum) = sums.get_mut(column as usize) {
+                *sum = sum.wrapping_add(price);
+            }
+        }
+    }
+
     /// The rows with their parts in a sum that passes its greatest value over the box, as whole multipliers.
     pub fn rayed(&self, alloc: Global, scale: u64) -> Result<Vec<(u32, u64)>, AllocError> {
         let mut parts = Vec::new(alloc);
@@ -144,6 +175,22 @@ impl Program {
         }
         parts.sort()?;
         Ok(parts)
+    }
+
+    /// Whether a row of the table is missed by its own point by more than its numbers may be off.
+    pub fn has_drifted(&self, lines: &Lines) -> bool {
+        self.numbers.iter().any(|number| self.columns.sum(lines.at(*number as usize)) < ONE - DRIFT)
+    }
+
+    /// The table is made anew of its rows, at most twice in a state: whether it was.
+    pub fn renew(&mut self, alloc: Global, lines: &Lines) -> Result<bool, AllocError> {
+        if self.renewals >= MOST_RENEWALS {
+            return Ok(false);
+        }
+        self.renewals = self.renewals.saturating_add(1);
+        let numbers = Vec::from_slice(alloc, self.numbers.as_slice())?;
+        self.restart(lines, numbers.as_slice())?;
+        Ok(true)
     }
 
     /// Those of the known rows come in that are missed most at the point: whether there were some.
@@ -167,10 +214,10 @@ impl Program {
     fn missed(&self, alloc: Global, lines: &Lines) -> Result<Vec<(i64, u32)>, AllocError> {
         let mut missed = Vec::new(alloc);
         for i in 0..lines.len() {
-            let number = row_number(i);
-            let terms = lines.at(i);
-            if self.columns.is_missed(terms) && !self.numbers.as_slice().contains(&number) {
-                missed.push((self.columns.sum(terms), number))?;
+            if !self.is_in(i) {
+                if let Some(value) = self.columns.missed_value(lines.at(i)) {
+                    missed.push((value, row_number(i)))?;
+                }
             }
         }
         missed.sort()?;
@@ -180,11 +227,39 @@ impl Program {
     // The rows that don't bind go.
     fn drop_loose(&mut self, alloc: Global, lines: &Lines) -> Result<(), AllocError> {
         let binding = self.binding(alloc)?;
+        self.restart(lines, binding.as_slice())
+    }
+
+    // The table is made anew of these known rows.
+    fn restart(&mut self, lines: &Lines, numbers: &[u32]) -> Result<(), AllocError> {
+        self.clear();
+        self.columns.free();
+        for number in numbers {
+            self.add(lines, *number)?;
+        }
+        Ok(())
+    }
+
+    // No rows are left in the table.
+    fn clear(&mut self) {
         self.table.clear();
         self.numbers.clear();
-        self.columns.free();
-        for number in binding.as_slice() {
-            self.add(lines, *number)?;
+        self.marks.clear();
+    }
+
+    // Whether a known row is in the table.
+    fn is_in(&self, number: usize) -> bool {
+        self.marks.get(number).copied().unwrap_or(false)
+    }
+
+    // Marks a known row that is in the table.
+    fn mark(&mut self, number: u32) -> Result<(), AllocError> {
+        let place = number as usize;
+        if place >= self.marks.len() {
+            self.marks.resize(place + 1, false)?;
+        }
+        if let Some(mark) = self.marks.get_mut(place) {
+            *mark = true;
         }
         Ok(())
     }
@@ -213,7 +288,7 @@ impl Program {
         }
         self.table.add_row(self.line.as_slice(), least)?;
         self.numbers.push(number)?;
-        Ok(())
+        self.mark(number)
     }
 
     // The column of a variable, a new one where it has none, if it isn't fixed.

@@ -43,11 +43,16 @@ pub fn turns(
     for _ in 0..most {
         match solve_once(alloc, claim, given, rows.as_slice(), hints)? {
             Turn::Closed(leaf) => return Ok(Some(leaf)),
-            Turn::Lost => return Ok(None),
-            Turn::Open => {}
-        }
-        if !goes_on(alloc, claim, given, pairs, rows, hints, cutters)? {
-            return Ok(None);
+            Turn::Lost => {
+                if !hints.renew(alloc)? {
+                    return Ok(None);
+                }
+            }
+            Turn::Open => {
+                if !goes_on(alloc, claim, given, pairs, rows, hints, cutters)? {
+                    return Ok(None);
+                }
+            }
         }
     }
     Ok(None)
@@ -73,15 +78,16 @@ fn goes_on(
     }
     let point = hints.point(alloc, claim.graph, pairs)?;
     let has_middle = hints.program().columns().has_middle();
+    let mut came_in = false;
     for cutter in cutters.iter_mut() {
         if ask(cutter, alloc, claim, given, point.as_slice(), rows, hints)? {
-            return Ok(true);
+            came_in = true;
         }
         if !has_middle {
-            return Ok(false);
+            return Ok(came_in);
         }
     }
-    Ok(false)
+    Ok(came_in)
 }
 
 // Whether a cutter gave a row that is new and missed at the point, which then came in.

@@ -2,7 +2,7 @@
 use Rattle.std.proofs.Common.{◌≡◌, ℕ, ◌-◌, ◌<◌, inl, inr, Bool, true, false, List, [], ◌∷◌, length, refl, sym, ◌∙◌, ap, ap₂, arith, cond, eqb}
 use Rattle.std.specs.Prelude.{Some, None, filter}
 use Rattle.std.proofs.lemmas.Bool.{and_parts, both_ways, cases_Bool, cases_order, eqb-true, or_cases}
-use Rattle.xn_model.specs.Drawing.{HasDrawingWith, IsDrawing}
+use Rattle.xn_model.specs.Drawing.{HasDrawingWith, IsSimpleDrawing}
 use Rattle.xn_model.specs.Graph.{Graph, IsGraph, each_two, edges_of, pairs_of}
 use Rattle.xn_model.specs.Lists.{has, neighbours, one_if, total}
 use Rattle.xn_model.specs.Orders.{crossing_count}
@@ -13,6 +13,7 @@ use Rattle.xn_kinds.specs.declared.rows.Row.{Row}
 use Rattle.xn_fewer.proofs.Crossings.{has_pair, is_pair, not_of_itself, two_in}
 use Rattle.xn_fewer.proofs.Has.{has-first}
 use Rattle.xn_fewer.proofs.Rising.{rising-from_increasing}
+use Rattle.xn_general.specs.Bounds.{DrawingsGiveSimpleOnes}
 use Rattle.xn_sound.specs.Laws.{RowsAreMet}
 use Rattle.xn_plant.specs.Planting.{IsRowOfState}
 
@@ -38,7 +39,7 @@ none_kept p (q ∷ ps) none e f there kept = elim (cases_Bool (p q)) [
   ]
 ]
 
-module _ (g : Graph) (ord : ℕ → List ℕ) (next : ℕ → ℕ) (drawing : IsDrawing g ord next) (none : crossing_count g ord ≡ 0) where
+module _ (g : Graph) (ord : ℕ → List ℕ) (next : ℕ → ℕ) (drawing : IsSimpleDrawing g ord next) (none : crossing_count g ord ≡ 0) where
   ordered : (e f : ℕ) → e < f → has (ord e) f ≡ true → ⊥
   ordered e f less there =
       let e_in = drawing.orders.within e f there in
@@ -73,8 +74,12 @@ module _ (g : Graph) (ord : ℕ → List ℕ) (next : ℕ → ℕ) (drawing : Is
     value_zero : value_of g row (values_in ord) ≡ 0
     value_zero = omega (arith, pairs_zero, turns_zero)
 
-pub no_row_without_crossings : RowsAreMet → (g : Graph) → IsGraph g → (row : Row) → IsRowOfState g empty_state row → HasDrawingWith g 0 → ⊥
-no_row_without_crossings met g is_graph row is drawn =
-    let some = met g row is_graph is.holds drawn.0 drawn.1 drawn.2 in
-    let zero_ = value_zero g drawn.0 drawn.1 drawn.2 drawn.3 row is in
+pub no_row_without_crossings : DrawingsGiveSimpleOnes → RowsAreMet → (g : Graph) → IsGraph g → (row : Row) → IsRowOfState g empty_state row → HasDrawingWith g 0 → ⊥
+no_row_without_crossings simple met g is_graph row is drawn =
+    let s = simple g 0 drawn in
+    let d = s.1 in
+    let few = s.2 in
+    let none : crossing_count g d.0 ≡ 0 = let count = d.3 in omega (arith, few, count) in
+    let some = met g row is_graph is.holds d.0 d.1 d.2 in
+    let zero_ = value_zero g d.0 d.1 d.2 none row is in
     omega (arith, some, zero_)

@@ -15,6 +15,7 @@ use Rattle.xn_kinds.specs.declared.rows.Row.{Row}
 use Rattle.xn_kinds.specs.declared.trees.Node.{Node}
 use Rattle.xn_effort.specs.Laws.{FinishedRoundsProve, MoreRowsKeepProofs, OpenRoundsBegin, RoundsEnd, ShownRoundsAreBelow, ShownRoundsAreWithin}
 use Rattle.xn_effort.specs.Leads.{HasOpened}
+use Rattle.xn_general.specs.Bounds.{SimpleDrawingsAreDrawings}
 use Rattle.xn_sound.specs.Laws.{AcceptedProofsBound}
 use Rattle.xn_search.specs.Choice.{GrowsTo, IsCountedDrawing}
 use Rattle.xn_search.specs.Rounds.{EndsAs, IsOpen}
@@ -31,6 +32,7 @@ pub record Known : Type 0 where
   pub within : ShownRoundsAreWithin
   pub below : ShownRoundsAreBelow
   pub proofs : MoreRowsKeepProofs
+  pub drawings : SimpleDrawingsAreDrawings
   pub bound : AcceptedProofsBound
 
 -- the rounds before the next one
@@ -136,7 +138,7 @@ module _ (known : Known) (g : Graph) (is_graph : IsGraph g) (budget lower spent 
         (r : Searched) → r ≡ record { drawn = drawn; lower = lower; spent = spent + cost; rows = rows; rounds = rounds; unfinished = nodes } → IsSearch g budget r
     found_one drawn is_drawn few cost is enough few_more r made =
         let few_in_all : length rows ≤ 800000 + (spent + cost) = omega (arith, few_more, so.few) in
-        let proved : lower ≤ drawn.crossings = so.least drawn.crossings (order_of g drawn.drawing.orders, at drawn.drawing.next, is_drawn.drawing.drawing, sym is_drawn.count) in
+        let proved : lower ≤ drawn.crossings = so.least drawn.crossings (known.drawings g drawn.crossings is_graph (order_of g drawn.drawing.orders, at drawn.drawing.next, is_drawn.drawing.drawing, sym is_drawn.count)) in
         let done : IsSearch g budget (record { drawn = drawn; lower = lower; spent = spent + cost; rows = rows; rounds = rounds; unfinished = nodes }) = record {
           drawn = is_drawn;
           at_most = proved;
@@ -182,9 +184,9 @@ nothing_spent g budget lower spent rows rounds so none =
     omega (arith, so.limit, limit)
 
 -- these laws together
-pub knows : FinishedRoundsProve → OpenRoundsBegin → RoundsEnd → ShownRoundsAreWithin → ShownRoundsAreBelow → MoreRowsKeepProofs → AcceptedProofsBound → Known
-knows prove begin end within below proofs bound =
-    record { prove = prove; begin = begin; end = end; within = within; below = below; proofs = proofs; bound = bound }
+pub knows : FinishedRoundsProve → OpenRoundsBegin → RoundsEnd → ShownRoundsAreWithin → ShownRoundsAreBelow → MoreRowsKeepProofs → SimpleDrawingsAreDrawings → AcceptedProofsBound → Known
+knows prove begin end within below proofs drawings bound =
+    record { prove = prove; begin = begin; end = end; within = within; below = below; proofs = proofs; drawings = drawings; bound = bound }
 
 -- the end of a round, by the next number, for a tree of its nodes
 pub ends_next : (g : Graph) (lower left : ℕ) (rows : List Row) (nodes tree : List Node) (cost : ℕ) (end is : End) → tree ≡ nodes → end ≡ is →

@@ -8,6 +8,7 @@ use crate::branching::counted;
 use crate::decisions::Decider;
 use crate::solved::{Solved, solve_from};
 use std::alloc::{AllocError, Global};
+use xn_general::laws::all_drawings;
 use xn_graph::Graph;
 use xn_kinds::Drawing;
 use xn_kinds::laws::trees_go_through_states;
@@ -45,6 +46,7 @@ fn first_drawing<P: Planes>(
     ensures flat { HasDrawingWith graph.now 0 →
         IfOk result (λ d. crossing_count graph.now (order_of graph.now d.orders) ≡ 0) }
 {
+    all_drawings();
     rows();
     trees_go_through_states();
     let _nodes = graph.nodes();

@@ -8,8 +8,8 @@ use Rattle.xn_model.proofs.Darts.{reverse_below}
 use Rattle.xn_genus.proofs.Counts.{Permutes-face, cycle_count-congr}
 use Rattle.xn_ring.proofs.Agreeing.{Permutes-agrees, iterate-agrees}
 use Rattle.xn_track.specs.Tidying.{IsDrawingOfEdges}
-use Rattle.xn_loose.proofs.InWeb.{at_position}
-use Rattle.xn_loose.proofs.Webs.{seg_at}
+use Rattle.xn_general.proofs.InWeb.{at_position}
+use Rattle.xn_general.proofs.Webs.{seg_at}
 
 pub flat-agrees : (web : Graph) (f h : ℕ → ℕ) → IsFlat web f → ((d : ℕ) → d < 2 * length web.ends → h d ≡ f d) → IsFlat web h
 flat-agrees web f h flat same =

@@ -1,7 +1,7 @@
 -- What untouch answers is a drawing.
 use Rattle.std.proofs.Common.{◌≡◌, ℕ, suc, ◌+◌, ◌*◌, ◌≤◌, inl, inr, List, [], ◌∷◌, length, sym, ◌∙◌, ap, subst, arith, length-append}
 use Rattle.std.proofs.lemmas.Bool.{cases_Bool}
-use Rattle.xn_model.specs.Drawing.{IsDrawing, IsListedDrawing, drawn_web, order_of}
+use Rattle.xn_model.specs.Drawing.{IsSimpleDrawing, IsListedDrawing, drawn_web, order_of}
 use Rattle.xn_model.specs.Graph.{Graph, edges_of}
 use Rattle.xn_model.specs.Lists.{at, total}
 use Rattle.xn_model.specs.Orders.{crossing_count}
@@ -74,7 +74,7 @@ module _ (g : Graph) (lists : List (List ℕ)) (map : ListedMap) (limited : IsLi
         record {
           lists_fit = crossed_lists-length next 0 lists ∙ may.lists_fit;
           next_fits = along.size ∙ ap length starts_are ∙ subst P order_is fact.size;
-          drawing = subst (λ ord. IsDrawing g ord (at turns)) order_is (record { orders = d.orders; is_flat_map = d.is_flat_map; crosses = d.crosses });
+          drawing = subst (λ ord. IsSimpleDrawing g ord (at turns)) order_is (record { orders = d.orders; is_flat_map = d.is_flat_map; crosses = d.crosses });
         }
 
   pub no_more : crossing_count g (order_of g left) ≤ crossing_count g (order_of g lists)

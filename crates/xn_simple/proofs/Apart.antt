@@ -5,7 +5,7 @@ use Rattle.xn_model.specs.Graph.{Graph}
 use Rattle.xn_model.specs.Map.{IsMap, tail_of}
 use Rattle.xn_track.specs.Track.{IsGround}
 use Rattle.xn_track.proofs.Relink.{a_to_b, after_far, at_node, c_to_d, fewer, fewer_far, is_split, split_ends, split_turns, tail_a, tail_c, tail_far}
-use Rattle.xn_loose.proofs.Touch.{IsKept}
+use Rattle.xn_general.proofs.Touch.{IsKept}
 use Rattle.xn_simple.specs.Loosened.{ComesFrom}
 
 -- at a node that is named each dart stands where it stood

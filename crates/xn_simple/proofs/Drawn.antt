@@ -21,8 +21,8 @@ use Rattle.xn_track.proofs.Blocks.{at_place, found_at}
 use Rattle.xn_track.proofs.Passes.{along_even, along_odd, begin, is_part, over_step, part_size, turn}
 use Rattle.xn_track.proofs.Runs.{runs_from}
 use Rattle.xn_track.proofs.Tidy.{cut, drawing, tidied}
-use Rattle.xn_loose.specs.Webs.{walk_in_web}
-use Rattle.xn_loose.proofs.Webs.{W-length, all_at}
+use Rattle.xn_general.specs.Webs.{walk_in_web}
+use Rattle.xn_general.proofs.Webs.{W-length, all_at}
 use Rattle.xn_simple.specs.Crossed.{crossed_from, starts_along}
 use Rattle.xn_simple.specs.Turning.{AreStarts, TurnsAlong}
 use Rattle.xn_simple.specs.Untouched.{IsUntouched, TouchingEdgesComeApart, starts_in}

@@ -4,7 +4,7 @@ use Rattle.std.specs.List.{flat_map}
 use Rattle.std.proofs.lemmas.Bool.{cases_lt, cond-true, cond-false, le-ltb, lt-ltb}
 use Rattle.std.proofs.lemmas.List.{length-map}
 use Rattle.std.proofs.lemmas.List.FromFn.{get_or-range_with_len, length-range_with_len}
-use Rattle.xn_model.specs.Drawing.{IsDrawing, IsListedDrawing, drawn_web, order_of}
+use Rattle.xn_model.specs.Drawing.{IsSimpleDrawing, IsListedDrawing, drawn_web, order_of}
 use Rattle.xn_model.specs.Graph.{Graph, edges_of, ends_at}
 use Rattle.xn_model.specs.Lists.{at, has, position_in, total}
 use Rattle.xn_model.specs.Orders.{IsOrders, crossing_count, crossings_of}
@@ -106,7 +106,7 @@ module _ (g : Graph) (t : ListedTangle) (done : IsUntangled g t) where
           record {
             lists_fit = rows_fit;
             next_fits = size ∙ tidy.size ∙ ap (λ k. 2 * k) segments;
-            drawing = subst (λ o. IsDrawing sub o (at turns)) (sym order_is) renamed.0;
+            drawing = subst (λ o. IsSimpleDrawing sub o (at turns)) (sym order_is) renamed.0;
           },
           let few = tidy.few in
               let same = ap (crossing_count sub) order_is ∙ renamed.1 in

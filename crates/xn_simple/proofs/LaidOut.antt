@@ -110,6 +110,7 @@ module _ (g : Graph) (t : ListedTangle) (done : IsUntangled g t) where
         let pairs = crossings_few edges ord (omega (arith, long, limit)) in
         record {
           loose = started.loose;
+          once = started.once;
           same_edges = started.kept_are_in;
           no_more = omega (arith, nodes, few, most);
           few = omega (arith, nodes, pairs);
@@ -121,7 +122,7 @@ pub laid_kept : (g : Graph) (old new : ListedTangle) (l : ListedLoose) → Keeps
 laid_kept g old new l keeps laid =
     let nodes = ap (λ m. m.web.nodes) keeps.same_map in
     let most = laid.no_more in
-    record { loose = laid.loose; same_edges = laid.same_edges ∙ keeps.same_edges; no_more = omega (arith, most, nodes); few = laid.few }
+    record { loose = laid.loose; once = laid.once; same_edges = laid.same_edges ∙ keeps.same_edges; no_more = omega (arith, most, nodes); few = laid.few }
 
 module _ (g : Graph) (l : ListedLoose) (turned : ListedMap) (walks : List (List ℕ)) (map_is : turned ≡ l.map) (walks_is : walks ≡ l.walks)
     (start : ListedTangle) (begins : IsTangleOf g turned (edges_in (loose_of g.nodes turned walks)) start) (new : ListedLoose) where
@@ -135,10 +136,10 @@ module _ (g : Graph) (l : ListedLoose) (turned : ListedMap) (walks : List (List 
   again_as laid =
       let most = laid.no_more in
       let nodes = nodes_are in
-      record { loose = laid.loose; same_edges = laid.same_edges ∙ begun; no_more = omega (arith, most, nodes); few = laid.few }
+      record { loose = laid.loose; once = laid.once; same_edges = laid.same_edges ∙ begun; no_more = omega (arith, most, nodes); few = laid.few }
 
   pub without_as : (e : ℕ) (fewer : ListedTangle) → fewer ≡ taken_out start e → IsLaidOf g fewer new → IsLaidAgain g (all_but_edge e (edges_in l)) l new
   without_as e fewer is laid =
       let most = laid.no_more in
       let nodes = ap (λ t. t.map.web.nodes) is ∙ nodes_are in
-      record { loose = laid.loose; same_edges = laid.same_edges ∙ ap (λ t. t.edges) is ∙ ap (all_but_edge e) begun; no_more = omega (arith, most, nodes); few = laid.few }
+      record { loose = laid.loose; once = laid.once; same_edges = laid.same_edges ∙ ap (λ t. t.edges) is ∙ ap (all_but_edge e) begun; no_more = omega (arith, most, nodes); few = laid.few }

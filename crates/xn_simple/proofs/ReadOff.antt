@@ -13,7 +13,7 @@ use Rattle.xn_orders.proofs.Listed.{flat_map-take_more}
 use Rattle.xn_track.specs.Tidying.{is_other, other_at}
 use Rattle.xn_track.proofs.OrdersAlong.{first_passing_is}
 use Rattle.xn_track.proofs.Passes.{edge_in as edge_low, some_darts}
-use Rattle.xn_loose.proofs.InWeb.{at_position}
+use Rattle.xn_general.proofs.InWeb.{at_position}
 use Rattle.xn_simple.specs.Tangle.{ListedTangle, named, node_in, walk_in}
 use Rattle.xn_simple.specs.Tidied.{is_crossed, starts_by_walks, starts_past}
 use Rattle.xn_simple.specs.Turning.{AreDartsOnce}

@@ -24,7 +24,7 @@ use Rattle.xn_track.proofs.Blocks.{at_place, found_at, place_in}
 use Rattle.xn_track.proofs.Passes.{begin, distinct_edges, ends_below, is_part, part_size, some_darts, turn, along_even, along_odd, walk_first, walk_last, walk_seam}
 use Rattle.xn_track.proofs.Runs.{runs_from}
 use Rattle.xn_track.proofs.Tidy.{cut, drawing, tidied}
-use Rattle.xn_loose.proofs.InWeb.{at-map}
+use Rattle.xn_general.proofs.InWeb.{at-map}
 use Rattle.xn_simple.specs.Loosened.{ComesFrom, IsLoosened}
 use Rattle.xn_simple.specs.Tidied.{IsTidied, LoosenedWalksAreDrawings, MeetSimplyAt, is_crossed, order_by_walks, starts_by_walks, starts_past, walk_starts}
 use Rattle.xn_simple.proofs.Agreeing.{drawing-agrees}

@@ -21,11 +21,11 @@ use Rattle.xn_track.proofs.Loose.{crossing_by_count}
 use Rattle.xn_track.proofs.OrdersAlong.{met_from, other_meets}
 use Rattle.xn_track.proofs.Passes.{Gap, begin, goes_at, passed-length, passed_at, two_gaps, walk_seam}
 use Rattle.xn_track.proofs.Places.{has-at, place_of, positions_apart}
-use Rattle.xn_loose.specs.Touching.{IsMesh}
-use Rattle.xn_loose.specs.Webs.{walk_in_web}
-use Rattle.xn_loose.proofs.InWeb.{at_position, darts_at}
-use Rattle.xn_loose.proofs.Touch.{Smoothed, mesh_smoothed}
-use Rattle.xn_loose.proofs.Webs.{W-length, W_place, first_tail, last_tail, seam_tails, seg_at, webs_are_meshes}
+use Rattle.xn_general.specs.Touching.{IsMesh}
+use Rattle.xn_general.specs.Webs.{walk_in_web}
+use Rattle.xn_general.proofs.InWeb.{at_position, darts_at}
+use Rattle.xn_general.proofs.Touch.{Smoothed, mesh_smoothed}
+use Rattle.xn_general.proofs.Webs.{W-length, W_place, first_tail, last_tail, seam_tails, seg_at, webs_are_meshes}
 use Rattle.xn_simple.specs.Crossed.{crossed_from, crossed_order, runs_straight}
 use Rattle.xn_simple.specs.Loosened.{ComesFrom}
 use Rattle.xn_simple.proofs.Apart.{is_kept, named, named_from}

@@ -1,10 +1,10 @@
-//! Edges that touch, that cross, and both; and a simple drawing.
+//! Edges that touch, that cross, and both; a simple drawing, and an edge with a kink.
 use super::*;
 use std::alloc::{AllocError, Global};
 use std::test::Fail;
 use xn_draw::examine;
-use xn_graph::Graph;
-use xn_insert::Loose;
+use xn_graph::{Graph, Web};
+use xn_insert::{Loose, Walks};
 use xn_kinds::{Drawing, Orders};
 use xn_list::Sequence;
 use xn_map::Map;
@@ -143,5 +143,19 @@ fn an_edge_that_touches_one_and_crosses_another(rt: HostRuntime) -> Result<(), F
 fn a_simple_drawing_stays(rt: HostRuntime) -> Result<(), Fail> {
     let drawing = simplified(rt.alloc(), 5, &K5, &[(0, 9), (9, 0)], &K5_TURNS)?;
     assert!(rt; is(rt.alloc(), &drawing, &[(0, 9), (9, 0)], &K5_TURNS)?);
+    Ok(())
+}
+
+/// An edge that crosses itself is straightened.
+#[test]
+fn a_kink_goes(rt: HostRuntime) -> Result<(), Fail> {
+    let alloc = rt.alloc();
+    let graph = Graph::make(2, [(0, 1)].to_vec(alloc)?)?;
+    let web = Web::make(3, [(0, 2), (2, 2), (2, 1)].to_vec(alloc)?)?;
+    let map = Map::make(alloc, web, &[0, 3, 4, 2, 1, 5])?;
+    let walks = Walks::new(vec![in alloc; [0, 2, 4].to_vec(alloc)?]?);
+    let loose = Loose::make(alloc, &graph, map, walks)?;
+    let drawing = simplify(alloc, &graph, loose)?;
+    assert!(rt; is(alloc, &drawing, &[], &[0, 1])?);
     Ok(())
 }

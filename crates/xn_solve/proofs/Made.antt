@@ -1,12 +1,13 @@
 -- The answer made of what was found proves what it says.
 use Rattle.std.proofs.Common.{◌≡◌, ℕ, ◌<◌, ◌≤◌, ◌^◌, inl, inr, refl, sym, subst, arith}
 use Rattle.std.proofs.lemmas.Bool.{cases_lt}
-use Rattle.xn_model.specs.Drawing.{order_of}
+use Rattle.xn_model.specs.Drawing.{HasDrawingWith, order_of}
 use Rattle.xn_model.specs.Graph.{Graph, pair_count_of}
 use Rattle.xn_model.specs.Limit.{node_limit}
 use Rattle.xn_model.specs.Lists.{at}
 use Rattle.xn_graph.specs.Limits.{IsLimitedGraph}
 use Rattle.xn_kinds.specs.declared.answers.Answer.{Answer}
+use Rattle.xn_general.specs.Bounds.{SimpleDrawingsAreDrawings}
 use Rattle.xn_sound.specs.Laws.{AcceptedProofsBound}
 use Rattle.xn_search.specs.Solved.{IsSolved, crossings_of}
 use Rattle.xn_search.specs.declared.solved.Solved.{Solved}
@@ -46,17 +47,21 @@ module _ (g : Graph) (budget : ℕ) (r : Solved) (limited : IsLimitedGraph g) (s
   pub made_well_formed : ProvedAnswersAreWellFormed → HasWellFormedAnswers g budget r
   made_well_formed proved loops loops_small = proved (answer_made g loops budget r) (made_is_limited loops loops_small) (made_is_proved loops)
 
-  pub bounds_both : AcceptedProofsBound → Bounds g r
-  bounds_both bound = (
+  -- its drawing, as one of any kind
+  drawn : SimpleDrawingsAreDrawings → HasDrawingWith g (crossings_of g r)
+  drawn drawings = drawings g (crossings_of g r) limited.is_graph (order_of g r.drawing.orders, at r.drawing.next, solved.drawing.drawing, refl)
+
+  pub bounds_both : SimpleDrawingsAreDrawings → AcceptedProofsBound → Bounds g r
+  bounds_both drawings bound = (
     bound g r.lower r.rows r.tree limited.is_graph solved.accepted,
-    (crossings_of g r, (order_of g r.drawing.orders, at r.drawing.next, solved.drawing.drawing, refl), omega arith),
+    (crossings_of g r, drawn drawings, omega arith),
   )
 
-  pub decides_from_limit : AcceptedProofsBound → DecidesFromLimit g budget r
-  decides_from_limit bound k is limit =
+  pub decides_from_limit : SimpleDrawingsAreDrawings → AcceptedProofsBound → DecidesFromLimit g budget r
+  decides_from_limit drawings bound k is limit =
       let least = is.at_most in
-      let low : r.lower ≤ k = omega (arith, (bounds_both bound).0 least.0 least.1, least.2) in
-      let high : k ≤ crossings_of g r = is.least (crossings_of g r) (order_of g r.drawing.orders, at r.drawing.next, solved.drawing.drawing, refl) in
+      let low : r.lower ≤ k = omega (arith, (bounds_both drawings bound).0 least.0 least.1, least.2) in
+      let high : k ≤ crossings_of g r = is.least (crossings_of g r) (drawn drawings) in
       let has_k : least.0 ≡ k = omega (arith, is.least least.0 least.1, least.2) in
       elim (cases_lt r.lower (crossings_of g r)) [
         | inl less ↦

@@ -8,6 +8,7 @@ use crate::maps::Maps;
 use std::alloc::{AllocError, Global};
 use xn_answers::laws::{answers, flat_graphs};
 use xn_cutter::Cutter;
+use xn_general::laws::all_drawings;
 use xn_graph::Graph;
 use xn_search::Solved;
 use xn_sound::laws::accepted_proofs;
@@ -33,6 +34,7 @@ pub fn solve(
     ensures flat { HasFlat graph.now.nodes graph.now.ends → IfOk result (IsFree graph.now) }
     ensures well_formed { IfOk result (HasWellFormedAnswers graph.now budget) }
 {
+    all_drawings();
     accepted_proofs();
     answers();
     flat_graphs();

@@ -3,7 +3,7 @@ use Rattle.std.proofs.Common.{◌≡◌, ℕ, zero, suc, ◌+◌, ◌<◌, ◌�
 use Rattle.std.specs.List.{range_with_len}
 use Rattle.std.specs.Prelude.{Some, filter, insert, slice_index_or}
 use Rattle.std.proofs.lemmas.Bool.{cases_Bool, cond-true, cond-false, eqb-true, and_parts}
-use Rattle.xn_model.specs.Drawing.{IsDrawing}
+use Rattle.xn_model.specs.Drawing.{IsSimpleDrawing}
 use Rattle.xn_model.specs.Graph.{Graph}
 use Rattle.xn_model.specs.Lists.{has}
 use Rattle.xn_model.specs.Orders.{crossing_count}
@@ -95,7 +95,7 @@ unfolding AnyLies
 any_right ord [] ys h = h
 any_right ord (x ∷ xs) ys h = inr (any_right ord xs ys h)
 
-module _ (boxed : ValuesAreInTheBox) (g : Graph) (k : ℕ) (rows : List Row) (met : All (IsMet g) rows) (ord : ℕ → List ℕ) (next : ℕ → ℕ) (drawing : IsDrawing g ord next) where
+module _ (boxed : ValuesAreInTheBox) (g : Graph) (k : ℕ) (rows : List Row) (met : All (IsMet g) rows) (ord : ℕ → List ℕ) (next : ℕ → ℕ) (drawing : IsSimpleDrawing g ord next) where
   -- it lies in a child's state or has k crossings
   node_shows : (s : State) (node : Node) → MayOpen g k rows s node → LiesIn ord s → AnyLies ord (children s node) ⊎ (k ≤ crossing_count g ord)
   node_shows s (Pair e f) keeps lies =

@@ -1,4 +1,5 @@
-//! What rows and proof trees show of every drawing: the two central proofs of the checker.
+//! What rows and proof trees show of every simple drawing, and accepted proofs of every drawing: the central proofs of the
+//! checker.
 #![tactic(auto)]
 
 pub mod laws;

@@ -7,6 +7,10 @@ const BITS: u32 = 36;
 
 const HALF: i128 = 1 << 35;
 
+const INVERSE_BITS: u32 = 40;
+
+const HALF_INVERSE: i128 = 1 << 39;
+
 const LOW_WORD: u128 = u64::MAX as u128;
 
 /// The product, rounded to the nearest. It wraps: a test for each product would double the time of a pivot.
@@ -28,13 +32,37 @@ pub fn square(a: i64) -> i128 {
     (a as i128).wrapping_mul(a as i128)
 }
 
-/// The quotient of two squares, with 36 bits after the point; 0 where the divisor is below 2^-36.
-pub fn quotient_of_squares(a: i128, b: i128) -> i128 {
-    let divisor = b >> BITS;
-    if divisor == 0 {
+/// The square of half the bits, with 36 bits after the point. It wraps.
+pub fn coarse_square(a: i64) -> i64 {
+    let coarse = a >> (BITS / 2);
+    coarse.wrapping_mul(coarse)
+}
+
+/// A square over a number, with 36 bits after the point; 0 where the number isn't above 0.
+pub fn share_of_square(square: i128, number: i64) -> i128 {
+    if number <= 0 {
         return 0;
     }
-    a.wrapping_div(divisor)
+    square.wrapping_div(number as i128)
+}
+
+/// One over a number, with 40 bits after the point; 0 where the number is 0.
+pub fn inverse(a: i64) -> i128 {
+    if a == 0 {
+        return 0;
+    }
+    (1i128 << (BITS + INVERSE_BITS)).wrapping_div(a as i128)
+}
+
+/// A number times an inverse, rounded to the nearest, or the nearest number of 64 bits.
+pub fn times_inverse(a: i64, inverse: i128) -> i64 {
+    let scaled = (a as i128).wrapping_mul(inverse).wrapping_add(HALF_INVERSE);
+    nearest(scaled >> INVERSE_BITS)
+}
+
+/// A number times another, with 72 bits after the point.
+pub fn long_product(a: i64, b: i64) -> i128 {
+    (a as i128).wrapping_mul(b as i128)
 }
 
 /// A whole number, or the nearest number of 64 bits.

@@ -1,7 +1,10 @@
 // The lines of the simplex method: the variables that stand at no bound, written in those that do. A place
 // past the end of a list is answered by 0 or by nothing, so that no call asks anything of its caller.
 
-use crate::fixed::{ONE, product, quotient, quotient_of_squares, square, whole};
+use crate::fixed::{
+    ONE, coarse_square, inverse, long_product, product, quotient, share_of_square, square,
+    times_inverse, whole,
+};
 use std::alloc::{AllocError, Global};
 
 // By how much a variable has to miss a bound before it leaves.
@@ -10,8 +13,8 @@ const LEAST_MISS: i64 = 1 << 14;
 // The least slope with which a variable enters.
 const LEAST_SLOPE: u64 = 1 << 12;
 
-// Ratios no farther apart count as one.
-const SAME_RATIO: u64 = 1 << 6;
+// Ratios no farther apart than one over two to this count as one.
+const SAME_RATIO_BITS: u32 = 30;
 
 // Entries of a pivot line below this count as 0.
 const LEAST_ENTRY: u64 = 1 << 6;
@@ -68,11 +71,12 @@ struct Term {
     entry: i64,
 }
 
-// A variable that may enter, with the size of its price for each unit of the leaving one.
+// A variable that may enter, with the sizes of its price and of its slope.
 #[derive(Clone, Copy, Debug)]
 struct Choice {
     entering: Entering,
-    ratio: i64,
+    price: i64,
+    slope: i64,
 }
 
 /// The lines.
@@ -115,11 +119,11 @@ impl Line {
     // variable itself among its entries (Forrest and Goldfarb, Steepest-edge simplex algorithms for linear
     // programming, Mathematical Programming 57, 1992).
     fn gain(&self, miss: i64) -> i128 {
-        let mut length = square(ONE);
+        let mut length = ONE;
         for entry in self.entries.iter() {
-            length = length.wrapping_add(square(*entry));
+            length = length.wrapping_add(coarse_square(*entry));
         }
-        quotient_of_squares(square(miss), length)
+        share_of_square(square(miss), length)
     }
 
     /// Adds a whole multiple of a variable at a bound.
@@ -190,9 +194,12 @@ impl Tableau {
                 if takes_first {
                     return Some(leaving);
                 }
-                let gain = line.gain(miss);
-                if best.is_none_or(|(_, greatest)| gain > greatest) {
-                    best = Some((leaving, gain));
+                let most = share_of_square(square(miss), ONE);
+                if best.is_none_or(|(_, greatest)| most > greatest) {
+                    let gain = line.gain(miss);
+                    if best.is_none_or(|(_, greatest)| gain > greatest) {
+                        best = Some((leaving, gain));
+                    }
                 }
             }
         }
@@ -206,9 +213,11 @@ impl Tableau {
         for (place, nonbasic) in self.nonbasics.iter().enumerate() {
             let slope = entry(line.entries.as_slice(), place);
             if nonbasic.brings_back(slope, leaving.is_above) {
-                let ratio = ratio(entry(self.prices.as_slice(), place), slope);
-                let entering = Entering { place, slope };
-                let choice = Choice { entering, ratio };
+                let choice = Choice {
+                    entering: Entering { place, slope },
+                    price: entry(self.prices.as_slice(), place).saturating_abs(),
+                    slope: slope.saturating_abs(),
+                };
                 if best.is_none_or(|other| is_better(choice, other)) {
                     best = Some(choice);
                 }
@@ -255,20 +264,15 @@ impl Tableau {
     }
 }
 
-// The size of the price for each unit of the leaving variable.
-fn ratio(price: i64, slope: i64) -> i64 {
-    if price == 0 {
-        0
-    } else {
-        quotient(price, slope).saturating_abs()
-    }
-}
-
-// Whether the ratio is less, or is the same and the slope is greater.
+// Whether the price for each unit of the leaving variable is less, or is the same and the slope is greater. Both
+// prices are compared for as many units as both slopes multiplied, since a quotient takes as long as ten products.
 fn is_better(choice: Choice, other: Choice) -> bool {
-    let gap = choice.ratio.saturating_sub(other.ratio);
-    if gap.unsigned_abs() <= SAME_RATIO {
-        choice.entering.slope.unsigned_abs() > other.entering.slope.unsigned_abs()
+    let mine = long_product(choice.price, other.slope);
+    let its = long_product(other.price, choice.slope);
+    let least = long_product(choice.slope, other.slope) >> SAME_RATIO_BITS;
+    let gap = mine.wrapping_sub(its);
+    if gap <= least && gap >= least.wrapping_neg() {
+        choice.slope > other.slope
     } else {
         gap < 0
     }
@@ -276,9 +280,10 @@ fn is_better(choice: Choice, other: Choice) -> bool {
 
 // Turns the leaving variable's entries into the entering one's.
 fn solve_for(entries: &mut [i64], entering: Entering) {
+    let inverse = inverse(entering.slope.wrapping_neg());
     for slot in entries.iter_mut() {
         if *slot != 0 {
-            let entry = quotient(*slot, entering.slope).wrapping_neg();
+            let entry = times_inverse(*slot, inverse);
             *slot = if entry.unsigned_abs() < LEAST_ENTRY {
                 0
             } else {

@@ -3,7 +3,7 @@ use Rattle.std.proofs.Common.{◌≡◌, ◌≢◌, ℕ, zero, suc, ◌+◌, ◌
 use Rattle.std.specs.List.{IsDistinct}
 use Rattle.std.specs.Prelude.{nat_eq}
 use Rattle.std.proofs.lemmas.Bool.{both_ways, cases_Bool, cases_eq, cases_order, eqb-true, ne_eqb, or_cases}
-use Rattle.xn_model.specs.Drawing.{IsAtMost}
+use Rattle.xn_model.specs.Drawing.{IsSimplyAtMost}
 use Rattle.xn_model.specs.Graph.{Graph, Independent, IsGraph, edges_of, ends_at, independent}
 use Rattle.xn_model.specs.Lists.{at, has}
 use Rattle.xn_model.specs.Map.{tail_of}
@@ -254,7 +254,7 @@ loose_drawings_give_drawings g edges further web next walks loose =
     (d.0, d.1, d.2, let few = t.2 in let less = d.3 in omega (arith, few, less))
 
 -- a drawing of all edges is one of the graph
-pub all_edges_drawn : (g : Graph) (most : ℕ) → HasDrawingOf g (edges_of g) most → IsAtMost g most
+pub all_edges_drawn : (g : Graph) (most : ℕ) → HasDrawingOf g (edges_of g) most → IsSimplyAtMost g most
 all_edges_drawn g most d = (
   crossing_count g d.0,
   (d.0, d.1, record { orders = d.2.orders; is_flat_map = d.2.is_flat_map; crosses = d.2.crosses }, refl),

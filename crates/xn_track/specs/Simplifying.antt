@@ -1,6 +1,6 @@
 -- Every loose drawing gives a simple one with no more crossings.
 use Rattle.std.specs.Prelude.{ℕ, ◌≤◌, Bool, List}
-use Rattle.xn_model.specs.Drawing.{IsAtMost}
+use Rattle.xn_model.specs.Drawing.{IsSimplyAtMost}
 use Rattle.xn_model.specs.Graph.{Graph, IsGraph, edges_of}
 use Rattle.xn_model.specs.Loose.{IsLoose}
 use Rattle.xn_model.specs.Permutation.{count_below}
@@ -29,4 +29,4 @@ LooseDrawingsGiveDrawings =
 -- and of all edges a drawing of the graph
 abbrev pub LooseDrawingsGiveSimpleOnes : Type 0
 LooseDrawingsGiveSimpleOnes =
-    (g : Graph) (further : ℕ) (web : Graph) (next : ℕ → ℕ) (walks : ℕ → List ℕ) → IsLoose g (edges_of g) further web next walks → IsAtMost g further
+    (g : Graph) (further : ℕ) (web : Graph) (next : ℕ → ℕ) (walks : ℕ → List ℕ) → IsLoose g (edges_of g) further web next walks → IsSimplyAtMost g further

@@ -17,7 +17,7 @@ use xn_map::{Corner, Map};
 
 impl Loose {
     /// Lets an edge come in along a route that crosses as few segments as can be, with a crossing for each of them, or
-    /// between two components, with none. No walk meets a node twice then.
+    /// between two components, with none. Where no walk met a node twice, none does then.
     ///
     /// The route is found by a search in breadth, in which each face and each dart is met once. After want of memory all is
     /// as before.

@@ -7,4 +7,4 @@ use Rattle.xn_brute.proofs.searches.has_drawing_within.Goals as goal
 pub returns : goal.returns
 returns c =
     IfOk-weaker c.lists_from.result _ _
-    (says_within c.args.graph.now c.args.most _ _ (omega (arith, c.from.ensures)) (c.new-none.ensures ∙ ap lists_of c.new.ensures.items)) c.lists_from.ensures
+    (says_within c.all_drawings.ensures.least c.all_drawings.ensures.most c.args.graph.now c.nodes-nodes.ensures.limited.is_graph c.args.most _ _ (omega (arith, c.from.ensures)) (c.new-none.ensures ∙ ap lists_of c.new.ensures.items)) c.lists_from.ensures

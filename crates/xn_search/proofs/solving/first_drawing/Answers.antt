@@ -20,4 +20,4 @@ returns-clause-flat g c = λ free.
     let row = c.in-Excluded.field-0 in
     let planted = subst (IsPlanted c.args.graph.now (state_of c.in_ok-given.given)) c.in-Excluded.is c.in_ok-drawing.ensures in
     let is = subst (λ (s : State). IsRowOfState c.args.graph.now s row) c.in_ok-given.ensures.state planted in
-    absurd (no_row_without_crossings c.rows.ensures.met c.args.graph.now c.nodes-nodes.ensures.limited.is_graph row is free)
+    absurd (no_row_without_crossings c.all_drawings.ensures.simple c.rows.ensures.met c.args.graph.now c.nodes-nodes.ensures.limited.is_graph row is free)

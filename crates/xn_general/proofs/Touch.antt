@@ -16,7 +16,7 @@ use Rattle.xn_fewer.proofs.Has.{has-first, has-later}
 use Rattle.xn_fewer.proofs.Rising.{distinct-rising, has-all, rising-from_increasing}
 use Rattle.xn_track.specs.Relinking.{PassesTo}
 use Rattle.xn_track.specs.Tidying.{HasDrawingOf}
-use Rattle.xn_loose.specs.Touching.{IsMesh, MeshesGiveDrawings}
+use Rattle.xn_general.specs.Touching.{IsMesh, MeshesGiveDrawings}
 use Rattle.xn_track.specs.Track.{IsGround, IsTrack, passed, straight_on}
 use Rattle.xn_track.proofs.Exchange.{StandsIn, move, stands_all, stands_first, stands_later}
 use Rattle.xn_track.proofs.Loose.{crossing_by_count, none_below}

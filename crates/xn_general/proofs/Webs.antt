@@ -16,17 +16,17 @@ use Rattle.xn_ring.proofs.Counting.{count-same, same_tests}
 use Rattle.xn_genus.proofs.Kept.{EndsIn_at}
 use Rattle.xn_fewer.proofs.Crossings.{IsCross, crossing_at, crossings_apart, node_apart, node_facts, node_turned, not_of_itself}
 use Rattle.xn_fewer.proofs.Rising.{Rising, distinct-rising, has-all, rising-from_increasing}
-use Rattle.xn_loose.specs.Touching.{IsMesh}
+use Rattle.xn_general.specs.Touching.{IsMesh}
 use Rattle.xn_track.specs.Track.{passed}
-use Rattle.xn_loose.specs.Webs.{DrawingsAreLoose, LeastIsOfAllDrawings, TouchingOrdersGiveDrawings, WebsAreMeshes, walk_in_web}
+use Rattle.xn_general.specs.Webs.{DrawingsAreLoose, TouchingOrdersGiveDrawings, WebsAreMeshes, walk_in_web}
 use Rattle.xn_track.proofs.Blocks.{at_place, blocks_apart, found_at, place, place-first_segment, place-same, place_in, size_of}
 use Rattle.xn_track.proofs.Places.{has-at, place_of, positions_apart}
-use Rattle.xn_loose.proofs.Fours.{four_distinct, listed_has, of_four}
-use Rattle.xn_loose.proofs.InWeb.{at-map, at_most_once, at_position, count_listed, darts-length, darts_at, straight_from, through-length, through_first, through_last, through_mid, walks_from}
+use Rattle.xn_general.proofs.Fours.{four_distinct, listed_has, of_four}
+use Rattle.xn_general.proofs.InWeb.{at-map, at_most_once, at_position, count_listed, darts-length, darts_at, straight_from, through-length, through_first, through_last, through_mid, walks_from}
 use Rattle.xn_track.proofs.Loose.{crossing_by_count}
 use Rattle.xn_track.proofs.Passes.{one_walked, passed-length, passed_at}
-use Rattle.xn_track.proofs.Simplify.{all_edges_drawn, loose_drawings_give_simple_ones}
-use Rattle.xn_loose.proofs.Touch.{meshes_give_drawings}
+use Rattle.xn_track.proofs.Simplify.{all_edges_drawn}
+use Rattle.xn_general.proofs.Touch.{meshes_give_drawings}
 
 module _ (g : Graph) (edges : List ℕ) (ord : ℕ → List ℕ) (next : ℕ → ℕ) (is_graph : IsGraph g) (orders : IsOrders g.ends edges ord) (flat : IsFlat (web_of g edges ord) next) where
   abbrev n : ℕ
@@ -425,15 +425,3 @@ drawings_are_loose g edges ord next is_graph drawing = loose g edges ord next is
 pub touching_orders_give_drawings : TouchingOrdersGiveDrawings
 touching_orders_give_drawings g ord next is_graph orders flat =
     all_edges_drawn g (crossing_count g ord) (meshes_give_drawings g _ _ _ next _ is_graph (webs_are_meshes g _ ord next is_graph orders flat))
-
-pub least_is_of_all_drawings : LeastIsOfAllDrawings
-least_is_of_all_drawings g k is_graph = (
-  λ least further web next walks is_loose.
-      let d = loose_drawings_give_simple_ones g further web next walks is_loose in
-      let low = least d.0 d.1 in
-      omega (arith, low, d.2),
-  λ all_least c d.
-      let drawing = d.2 in
-      subst (λ k'. k ≤ k') d.3
-      (all_least _ _ d.1 _ (drawings_are_loose g _ d.0 d.1 is_graph (record { orders = drawing.orders; is_flat_map = drawing.is_flat_map; crosses = drawing.crosses }))),
-)

@@ -1,13 +1,13 @@
 -- The walks of the edges in a planarised graph.
-use Rattle.std.specs.Prelude.{◌↔◌, ℕ, zero, suc, ◌*◌, ◌≤◌, List, [], ◌∷◌, length}
-use Rattle.xn_model.specs.Drawing.{IsAtLeast, IsAtMost}
+use Rattle.std.specs.Prelude.{ℕ, zero, suc, ◌*◌, List, [], ◌∷◌, length}
+use Rattle.xn_model.specs.Drawing.{IsSimplyAtMost}
 use Rattle.xn_model.specs.Graph.{Graph, IsGraph, edges_of}
 use Rattle.xn_model.specs.Loose.{IsLoose}
 use Rattle.xn_model.specs.Map.{IsFlat}
 use Rattle.xn_model.specs.Orders.{IsOrders, crossing_count, crossings_of}
 use Rattle.xn_model.specs.Web.{first_segment, web_of}
 use Rattle.xn_track.specs.Tidying.{IsDrawingOfEdges}
-use Rattle.xn_loose.specs.Touching.{IsMesh}
+use Rattle.xn_general.specs.Touching.{IsMesh}
 
 -- the first darts of the segments s to s + more
 abbrev pub darts_from : ℕ → ℕ → List ℕ
@@ -24,22 +24,14 @@ WebsAreMeshes =
     (g : Graph) (edges : List ℕ) (ord : ℕ → List ℕ) (next : ℕ → ℕ) → IsGraph g → IsOrders g.ends edges ord → IsFlat (web_of g edges ord) next →
     IsMesh g edges (length (crossings_of edges ord)) (web_of g edges ord) next (walk_in_web edges ord)
 
--- so edges that touch at their crossings can be drawn apart, with no more crossings
+-- so edges that touch at their crossings can be drawn apart, simply, with no more crossings
 abbrev pub TouchingOrdersGiveDrawings : Type 0
 TouchingOrdersGiveDrawings =
     (g : Graph) (ord : ℕ → List ℕ) (next : ℕ → ℕ) → IsGraph g → IsOrders g.ends (edges_of g) ord → IsFlat (web_of g (edges_of g) ord) next →
-    IsAtMost g (crossing_count g ord)
+    IsSimplyAtMost g (crossing_count g ord)
 
--- a drawing is a loose drawing, whose further nodes are its crossings
+-- a simple drawing is a loose drawing, whose further nodes are its crossings
 abbrev pub DrawingsAreLoose : Type 0
 DrawingsAreLoose =
     (g : Graph) (edges : List ℕ) (ord : ℕ → List ℕ) (next : ℕ → ℕ) → IsGraph g → IsDrawingOfEdges g edges ord next →
     IsLoose g edges (length (crossings_of edges ord)) (web_of g edges ord) next (walk_in_web edges ord)
-
--- every loose drawing of all edges has at least k crossings
-abbrev pub LeastOfLoose : Graph → ℕ → Type 0
-LeastOfLoose g k = (further : ℕ) (web : Graph) (next : ℕ → ℕ) (walks : ℕ → List ℕ) → IsLoose g (edges_of g) further web next walks → k ≤ further
-
--- what bounds the simple drawings bounds all
-abbrev pub LeastIsOfAllDrawings : Type 0
-LeastIsOfAllDrawings = (g : Graph) (k : ℕ) → IsGraph g → IsAtLeast g k ↔ LeastOfLoose g k
