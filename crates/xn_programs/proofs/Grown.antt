@@ -1,13 +1,24 @@
 -- Rows that came behind the known ones, step by step.
-use Rattle.std.proofs.Common.{◌≡◌, ◌<◌, ◌∙◌, List, [], ◌∷◌, ◌++◌, length, sym, ap, subst, arith, append_assoc, append-nil, length-append}
+use Rattle.std.proofs.Common.{◌≡◌, ◌<◌, ◌∙◌, List, [], ◌∷◌, ◌++◌, length, true, false, refl, sym, ap, subst, arith, append_assoc, append-nil, length-append}
 use Rattle.std.specs.Prelude.{All}
+use Rattle.std.proofs.lemmas.Bool.{both_ways}
 use Rattle.std.proofs.lemmas.List.Elements.{All-push}
+use Rattle.xn_model.specs.Evidence.{five_pairs, three_pairs}
 use Rattle.xn_model.specs.Graph.{Graph}
-use Rattle.xn_kinds.specs.Row.{RowHolds}
+use Rattle.xn_kinds.specs.Row.{EvidenceHolds, RowHolds}
+use Rattle.xn_kinds.specs.declared.rows.Evidence.{Evidence}
+use Rattle.xn_kinds.specs.declared.rows.Evidence.TheVariants.{Five, ThreeThree, Extension}
 use Rattle.xn_kinds.specs.declared.rows.Row.{Row}
 use Rattle.xn_kura.specs.Flaws.{HasAKind}
+use Rattle.xn_kura.proofs.Turned.{length-lead}
 use Rattle.xn_search.specs.Choice.{GrowsTo, HaveKinds}
-use Rattle.xn_programs.specs.Turns.{IsGrown}
+use Rattle.xn_programs.specs.Turns.{IsGrown, is_extension}
+
+-- evidence that holds and is no extension has a kind
+pub kind_of_held : (web : Graph) (evidence : Evidence) → EvidenceHolds web evidence → is_extension evidence ≡ false → HasAKind evidence
+kind_of_held web (Five branch paths) held other = (held.0, length-lead web.ends branch five_pairs paths held.1.lead)
+kind_of_held web (ThreeThree branch paths) held other = (held.0, length-lead web.ends branch three_pairs paths held.1.lead)
+kind_of_held web (Extension list) held other = absurd (both_ways true other refl)
 
 -- none
 pub grown_none : (g : Graph) (rows : List Row) → All (RowHolds g) rows → IsGrown g rows rows

@@ -1,12 +1,12 @@
 // The turns of a state: its program is solved, and rows come in that are missed at its point.
-ghost use Rattle.std.specs.Prelude.{◌≡◌, ◌↔◌, All, IfOk, IfSome, IsTrue};
+ghost use Rattle.std.specs.Prelude.{◌≡◌, All, IfOk, IfSome};
 ghost use Rattle.xn_kinds.specs.Row.{RowHolds};
 ghost use Rattle.xn_kinds.specs.State.{IsState};
 ghost use Rattle.xn_kinds.specs.Tree.{MayOpen};
 ghost use Rattle.xn_kura.specs.Flaws.{HasAKind};
 ghost use Rattle.xn_tree.specs.Given.{state_of};
 ghost use Rattle.xn_cutter.specs.Point.{IsPoint};
-ghost use Rattle.xn_programs.specs.Turns.{IsGrown, IsTurn};
+ghost use Rattle.xn_programs.specs.Turns.{IsGrown, IsTurn, is_extension};
 
 use crate::hints::{Hints, Worth};
 use crate::leaves::{Turn, by_prices, by_ray, by_row_alone};
@@ -126,7 +126,7 @@ pub fn keep(
     requires hold { All (RowHolds graph.now) rows.old.items }
     ensures grown { IfOk result (λ _. IsGrown graph.now rows.old.items rows.new.items) }
 {
-    if !has_a_kind(&row) {
+    if has_extension(&row) {
         return Ok(false);
     }
     let worth = hints.weigh(graph, &row)?;
@@ -146,14 +146,14 @@ pub fn keep(
     Ok(false)
 }
 
-// Whether the evidence of a row is a subdivision of K5 or of K3,3.
-fn has_a_kind(row: &Row) -> bool
-    ensures { IsTrue result ↔ HasAKind row.now.evidence }
+// Whether the evidence of a row is an extension.
+fn has_extension(row: &Row) -> bool
+    ensures { result ≡ is_extension row.now.evidence }
 {
     match &row.evidence {
-        Evidence::Five { branch, paths } => branch.len() == 5 && paths.len() == 10,
-        Evidence::ThreeThree { branch, paths } => branch.len() == 6 && paths.len() == 9,
-        Evidence::Extension { .. } => false,
+        Evidence::Five { .. } => false,
+        Evidence::ThreeThree { .. } => false,
+        Evidence::Extension { .. } => true,
     }
 }
 
