@@ -1,32 +1,38 @@
 //! Rings of darts: a permutation that is changed by swapping two successors.
 #![tactic(auto)]
 
-ghost use Rattle.std.specs.Prelude.{◌≡◌, ℕ, ◌+◌, ◌-◌, ◌^◌, ◌<◌, ◌≤◌, ◌++◌, length, take, swap, vec_capacity, vec_len, IfOk, OnErr, OnOk};
+ghost use Rattle.std.specs.Prelude.{◌≡◌, ℕ, ◌+◌, ◌-◌, ◌*◌, ◌^◌, ◌<◌, ◌≤◌, ◌++◌, List, length, take, swap, vec_capacity, vec_len, IfOk, OnErr, OnOk};
 ghost use Rattle.std.specs.List.{range_with_len};
 ghost use Rattle.xn_model.specs.Lists.{at};
 ghost use Rattle.xn_model.specs.Permutation.{IsSplice, Permutes};
+ghost use Rattle.xn_ring.specs.Cells.{place};
+ghost use Rattle.xn_ring.specs.Held.{AreHeld, HasGrown};
 
+use cells::{Cells, DartCell, Place};
 use std::alloc::{AllocError, Global};
 use std::marker::Model;
 
+mod cells;
 pub mod laws;
 
 /// Darts in rings: a permutation of the darts below `len`, seen as the list of their successors.
-#[derive(Drop)]
+/// The darts are cells in blocks that never move, linked by pointers.
 pub struct Rings {
-    next: Vec<u32>,
-    prev: Vec<u32>,
+    table: Vec<Place>,
+    cells: Cells,
+    len: u32,
+    alloc: Global,
 }
 
 impl Model for Rings {
-    ghost use Rattle.std.specs.Prelude.{List, ℕ};
-    ghost use Rattle.xn_ring.specs.Rings.{AreRings};
+    ghost use Rattle.std.specs.Prelude.{List, ℕ, take};
+    ghost use Rattle.xn_ring.specs.Held.{AreRings};
 
     ghost Value = { List ℕ };
 
-    ghost view = { λ r. r.next.items };
+    ghost view = { λ r. take r.len r.cells.next };
 
-    ghost invariant = { λ r. AreRings r.next.items r.prev.items };
+    ghost invariant = { λ r. AreRings r.table.items r.cells r.len r.alloc };
 }
 
 impl Rings {
@@ -36,8 +42,10 @@ impl Rings {
         ensures { IfOk result (λ r. r ≡ range_with_len 0 n) }
     {
         let mut rings = Rings {
-            next: Vec::new(alloc),
-            prev: Vec::new(alloc),
+            table: Vec::new(alloc),
+            cells: Cells::none(alloc),
+            len: 0,
+            alloc,
         };
         rings.grow(n)?;
         Ok(rings)
@@ -49,7 +57,7 @@ impl Rings {
         ensures permutes { Permutes (length self.now) (at self.now) }
         ensures small { length self.now ≤ 2 ^ 31 }
     {
-        self.next.len() as u32
+        self.len
     }
 
     /// The successor of a dart in its ring.
@@ -58,7 +66,8 @@ impl Rings {
         ensures next { result ≡ at self.now d }
         ensures below { result < length self.now }
     {
-        self.next[d as usize]
+        let here = reach(&self.table, &self.cells, d);
+        self.cells.next(here, d)
     }
 
     /// The dart that leads to d.
@@ -67,7 +76,8 @@ impl Rings {
         ensures leads { at self.now result ≡ d }
         ensures below { result < length self.now }
     {
-        self.prev[d as usize]
+        let here = reach(&self.table, &self.cells, d);
+        self.cells.prev(here, d)
     }
 
     /// Swaps the successors of two darts, and nothing else. It takes no memory.
@@ -77,10 +87,9 @@ impl Rings {
         ensures swapped { self.new ≡ swap self.old a b }
         ensures splice { IsSplice (length self.old) a b (at self.old) (at self.new) }
     {
-        let after_a = self.next[a as usize];
-        let after_b = self.next[b as usize];
-        self.next.swap(a as usize, b as usize);
-        self.prev.swap(after_a as usize, after_b as usize);
+        let here_a = reach(&self.table, &self.cells, a);
+        let here_b = reach(&self.table, &self.cells, b);
+        self.cells.splice(here_a, here_b, a, b);
     }
 
     /// Adds n darts, each alone. After want of memory all is as before.
@@ -89,35 +98,74 @@ impl Rings {
         ensures ok { OnOk result (self.new ≡ self.old ++ range_with_len (length self.old) n) }
         ensures err { OnErr result (self.new ≡ self.old) }
     {
-        self.next.reserve(n as usize)?;
-        self.prev.reserve(n as usize)?;
-        append_alone(&mut self.next, n);
-        append_alone(&mut self.prev, n);
+        let len = self.len + n;
+        provide(&mut self.table, &mut self.cells, self.alloc, len)?;
+        self.len = len;
         Ok(())
     }
 
-    /// Takes away the last n darts, each of which is alone. It takes no memory.
+    /// Takes away the last n darts, each of which is alone. Their blocks stay. It takes no memory.
     pub fn shrink(&mut self, n: u32)
         requires fewer { n ≤ length self.old }
         requires alone { (d : ℕ) → length self.old - n ≤ d → d < length self.old → at self.old d ≡ d }
         ensures { self.new ≡ take (length self.old - n) self.old }
     {
-        let left = self.next.len() - n as usize;
-        self.next.truncate(left);
-        self.prev.truncate(left);
+        self.len -= n;
     }
 }
 
-// Appends n numbers, each its own place, where there is room for them.
-fn append_alone(xs: &mut Vec<u32>, n: u32)
-    requires small { vec_len xs.old + n ≤ 2 ^ 31 }
-    requires room { vec_len xs.old + n ≤ vec_capacity xs.old }
-    ensures { xs.new.items ≡ xs.old.items ++ range_with_len (length xs.old.items) n }
-{
-    let start = xs.len() as u32;
-    for i in 0..n {
-        xs.push_reserved(start + i);
+impl Drop for Rings {
+    fn drop(self) {
+        let Rings {
+            mut table,
+            mut cells,
+            len: _,
+            alloc,
+        } = self;
+        while let Some(block) = table.pop() {
+            drop(cells.unblock(block, alloc));
+        }
     }
+}
+
+// Where the cell of d lies.
+fn reach(table: &Vec<Place>, cells: &Cells, d: u32) -> Place
+    requires held { AreHeld table.now.items cells.now }
+    requires below { d < length cells.now.next }
+    ensures { result.ptr ≡ place cells.now.table d }
+{
+    cells.cell(table[(d / 1024) as usize], d)
+}
+
+// Takes blocks until there are cells for `len` darts. The room in the table is taken first, and what was taken stays.
+fn provide(
+    table: &mut Vec<Place>,
+    cells: &mut Cells,
+    alloc: Global,
+    len: u32,
+) -> Result<(), AllocError>
+    requires held { AreHeld table.old.items cells.old }
+    requires heap { alloc ≡ cells.old.alloc }
+    requires small { len ≤ 2 ^ 31 }
+    ensures grown { HasGrown table.new.items cells.old cells.new }
+    ensures enough { IfOk result (λ _. len ≤ length cells.new.next) }
+{
+    let wanted = (len as usize).div_ceil(1024);
+    let there = table.len();
+    if there >= wanted {
+        return Ok(());
+    }
+    table.reserve(wanted - there)?;
+    for k in there..wanted {
+        let blank = DartCell {
+            number: 0,
+            next: std::ptr::null_mut(),
+            prev: std::ptr::null_mut(),
+        };
+        let room = Box::new(alloc, [blank; 1024])?;
+        table.push_reserved(cells.block(room, (k * 1024) as u32));
+    }
+    Ok(())
 }
 
 #[cfg(test)]

@@ -39,3 +39,65 @@ fn new_darts_are_alone_and_can_be_taken_away(rt: HostRuntime) -> Result<(), Fail
     }
     Ok(())
 }
+
+// The same rings in two vectors.
+#[derive(Drop)]
+struct Plain {
+    next: Vec<u32>,
+    prev: Vec<u32>,
+}
+
+fn grow_plain(plain: &mut Plain, n: u32) -> Result<(), AllocError> {
+    for _ in 0..n {
+        let d = plain.next.len() as u32;
+        plain.next.push(d)?;
+        plain.prev.push(d)?;
+    }
+    Ok(())
+}
+
+fn splice_plain(plain: &mut Plain, a: usize, b: usize) {
+    if a < plain.next.len() && b < plain.next.len() {
+        let after_a = plain.next[a] as usize;
+        let after_b = plain.next[b] as usize;
+        plain.next.swap(a, b);
+        if after_a < plain.prev.len() && after_b < plain.prev.len() {
+            plain.prev.swap(after_a, after_b);
+        }
+    }
+}
+
+fn are_alike(rt: &impl Abort, rings: &Rings, plain: &Plain) {
+    let len = rings.len();
+    assert!(rt; plain.next.len() == len as usize && plain.prev.len() == len as usize);
+    for d in 0..len {
+        assert_eq!(rt; rings.next(d), plain.next[d as usize]);
+        assert_eq!(rt; rings.prev(d), plain.prev[d as usize]);
+    }
+}
+
+#[test]
+fn three_blocks_are_as_two_vectors(rt: HostRuntime) -> Result<(), Fail> {
+    let mut rings = Rings::new(rt.alloc(), 0)?;
+    let mut plain = Plain {
+        next: Vec::new(rt.alloc()),
+        prev: Vec::new(rt.alloc()),
+    };
+    for _ in 0..3 {
+        assert!(rt; rings.len() <= 2000);
+        rings.grow(1000)?;
+        grow_plain(&mut plain, 1000)?;
+        are_alike(&rt, &rings, &plain);
+    }
+    assert!(rt; rings.len() == 3000);
+    rings.splice(0, 2999);
+    splice_plain(&mut plain, 0, 2999);
+    are_alike(&rt, &rings, &plain);
+    rings.splice(0, 1024);
+    splice_plain(&mut plain, 0, 1024);
+    are_alike(&rt, &rings, &plain);
+    assert_eq!(rt; rings.next(0), 1024);
+    assert_eq!(rt; rings.next(1024), 2999);
+    assert_eq!(rt; rings.next(2999), 0);
+    Ok(())
+}
