@@ -1,5 +1,6 @@
 //! What the darts lead to after each step of a stated run.
 use super::*;
+use std::process::Abort;
 use std::test::Fail;
 
 #[test]
