@@ -1,6 +1,7 @@
 pub mod Agreeing
 pub mod Boxes
 pub mod Counting
+pub mod Emptied
 pub mod Freed
 pub mod Grown
 pub mod Halves
@@ -13,6 +14,7 @@ pub mod Opened
 pub mod Orbits
 pub mod Places
 pub mod Blocks
+pub mod Provided
 pub mod Renumbering
 pub mod Restriction
 pub mod Seen

@@ -1,0 +1,19 @@
+-- The table of a `Rings` as its blocks are given back, the last one first.
+use Rattle.std.proofs.Common.{◌≡◌, ℕ, suc, ◌+◌, ◌-◌, ◌<◌, List, [], ◌∷◌, ◌++◌, length, map, refl, sym, ap, ◌∙◌, subst, arith}
+use Rattle.std.specs.declared.alloc.Global.{Global}
+use Rattle.std.proofs.lemmas.List.{get_or_append_left, length-append}
+use denote.RawPtr.{Ptr, null_ptr}
+use Rattle.xn_ring.specs.declared.cells.Cells.{Cells}
+use Rattle.xn_ring.specs.declared.cells.Place.{Place}
+use Rattle.xn_ring.specs.Cells.{block_at}
+use Rattle.xn_ring.specs.Held.{AreRings}
+use Rattle.xn_ring.proofs.Places.{block-added}
+
+abbrev pub begins : List Place → List Ptr
+begins blocks = map (λ b. b.ptr) blocks
+
+-- what is left of a table leads to the blocks that are left
+pub record AreLeft (blocks : List Place) (cells : Cells) (alloc : Global) : Type 0 where
+  pub left : cells.left ≡ length blocks
+  pub leads : (k : ℕ) → k < length blocks → block_at (begins blocks) k ≡ block_at cells.table k
+  pub heap : alloc ≡ cells.alloc
