@@ -33,7 +33,7 @@ module _ (blocks blocks' : List Place) (old cells new : Cells) (p : Place) (s k 
   held = was.grown.held
 
   begun : s ≡ length cells.next
-  begun = omega (arith, s_is, was.there, held.linked.whole, held.linked.all, ap length held.table, length-map (λ b. b.ptr) blocks)
+  begun = omega (arith, s_is, was.there, held.linked.whole, held.linked.all, ap length held.table, length-map blocks (λ b. b.ptr))
 
   forward : new.next ≡ cells.next ++ range_with_len (length cells.next) 1024
   forward = next_is ∙ ap (λ n. cells.next ++ range_with_len n 1024) begun

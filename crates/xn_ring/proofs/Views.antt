@@ -106,6 +106,11 @@ module _ (blocks : List Place) (cells : Cells) (len : ℕ) (alloc : Global) (r :
     small = small;
   }
 
+  -- cells came in, and no dart
+  pub refused : (blocks' : List Place) (new : Cells) → HasGrown blocks' cells new → AreRings blocks' new len alloc
+  refused blocks' new grown =
+      further blocks' new len grown (omega arith) (omega (arith, ap length grown.next, length-append_range cells.next grown.more, r.within)) r.small
+
   pub kept_seen : (blocks' : List Place) (new : Cells) → HasGrown blocks' cells new → take len new.next ≡ take len cells.next
   kept_seen blocks' new grown = ap (take len) grown.next ∙ take-append-le len cells.next (range_with_len (length cells.next) grown.more) r.within
 

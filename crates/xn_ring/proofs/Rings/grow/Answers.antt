@@ -1,10 +1,10 @@
-use Rattle.std.proofs.Common.{◌≡◌, ◌<◌, ◌≤◌, ap, arith, length, subst, sym, ◌∙◌}
-use Rattle.xn_ring.proofs.Views.{further, grown_seen, length_seen}
+use Rattle.std.proofs.Common.{◌+◌, ap, arith, length}
+use Rattle.xn_ring.proofs.Views.{further, grown_seen, length_seen, refused}
 use Rattle.xn_ring.proofs.Rings.grow.Goals as goal
 
 pub invariant_of-self : goal.invariant_of-self
 invariant_of-self c =
-    let r = c.self.inside in ?
+    let r = c.self.inside in refused r.table.items r.cells r.len r.alloc c.self.invariant c.provide.new.table.items c.provide.new.cells c.provide.ensures.grown
 
 pub invariant_of-self-2 : goal.invariant_of-self-2
 invariant_of-self-2 c =
