@@ -2,19 +2,18 @@
 --     rooms, emptied, one_room     a row of cells whose values don't matter
 --     more, glue, cut              a run of cells grows by one;  two runs are one
 --     rowed                        a run of cells that lie side by side is a row
-use Prim.Native.Nat.{ℕ, zero, suc, ◌+◌, ◌-◌, ◌*◌, ◌<◌, ◌≤◌}
+use Prim.Native.Nat.{ℕ, zero, suc, ◌+◌, ◌-◌, ◌*◌, ◌<◌}
 use native.Mathlib.Omega.{arith}
-use mathlib.Core.Path.{◌≡◌, refl, sym, ap, subst, ◌∙◌}
+use mathlib.Core.Path.{◌≡◌, refl, ap, subst, ◌∙◌}
 use mathlib.Core.List.{List, [], ◌∷◌}
 use lib.ListN.{length}
 use seplogic.Ra.Ura.{Ura}
 use base.Fraction.{full_share}
 use base.Logic.{ent, sep, emp, id⊢}
-use base.Fml.{Fml, ftrue, fsep, fat, froom}
+use base.Fml.{Fml, ftrue, fsep, froom}
 use types.Logic.{Logic, sem}
-use types.Kit.{‵, ◌⊛◌, ◌$◌, ◌∵◌, !, qed, by, move, drop, use1, use2, split, frame, fsplit, fjoin, rewrite, done}
+use types.Kit.{‵, ◌$◌, ◌∵◌, !, qed, move, drop, use1, use2, fsplit, fjoin, rewrite, done}
 use denote.Index.{row}
-use denote.Memory.{part_at}
 use denote.RawPtr.{Ptr, block_ptr, lies_at}
 use denote.Steps.{nothing}
 use Rattle.xn_ring.specs.contracts.cells.DartCell as D

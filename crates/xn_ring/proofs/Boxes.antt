@@ -1,7 +1,6 @@
 -- A block as a box, and what its two calls take. Assumes `Logic`.
-use Prim.Native.Nat.{ℕ}
 use mathlib.Core.Path.{◌≡◌, refl}
-use mathlib.Core.List.{List, [], ◌∷◌}
+use mathlib.Core.List.{[], ◌∷◌}
 use mir.Syntax.{Ty, Dict, w32, ty_int, ty_ptr, ty_unit, ty_array, ty_struct, tcons, tnil, dnil, impl}
 use mir.Raw.{raw}
 use denote.Exit.{no}

@@ -1,13 +1,10 @@
 -- The table of a `Rings` as its blocks are given back, the last one first.
-use Rattle.std.proofs.Common.{◌≡◌, ℕ, suc, ◌+◌, ◌-◌, ◌<◌, List, [], ◌∷◌, ◌++◌, length, map, refl, sym, ap, ◌∙◌, subst, arith}
+use Rattle.std.proofs.Common.{◌≡◌, ℕ, ◌<◌, List, length, map}
 use Rattle.std.specs.declared.alloc.Global.{Global}
-use Rattle.std.proofs.lemmas.List.{get_or_append_left, length-append}
-use denote.RawPtr.{Ptr, null_ptr}
+use denote.RawPtr.{Ptr}
 use Rattle.xn_ring.specs.declared.cells.Cells.{Cells}
 use Rattle.xn_ring.specs.declared.cells.Place.{Place}
 use Rattle.xn_ring.specs.Cells.{block_at}
-use Rattle.xn_ring.specs.Held.{AreRings}
-use Rattle.xn_ring.proofs.Places.{block-added}
 
 abbrev pub begins : List Place → List Ptr
 begins blocks = map (λ b. b.ptr) blocks

@@ -1,5 +1,5 @@
 -- The cells of the last block, as a block again. Assumes `Logic`.
-use Prim.Native.Nat.{ℕ, zero, suc, ◌+◌, ◌*◌, ◌<◌}
+use Prim.Native.Nat.{ℕ, suc, ◌+◌, ◌*◌, ◌<◌}
 use native.Mathlib.Nat.{add_comm}
 use native.Mathlib.Omega.{arith}
 use mathlib.Core.Path.{◌≡◌, refl, sym, ap, subst, ◌∙◌}
@@ -8,9 +8,9 @@ use lib.ListN.{length}
 use seplogic.Ra.Ura.{Ura}
 use base.Fraction.{full_share}
 use base.Logic.{ent, sep, ex}
-use base.Fml.{Fml, fsep, feq}
+use base.Fml.{fsep}
 use types.Logic.{Logic, sem}
-use types.Kit.{‵, ◌⊛◌, some, ◌$◌, ◌∵◌, !, qed, by, move, drop, use1, use2, split, frame, fsplit, fjoin, feq_i, show, rewrite, done}
+use types.Kit.{‵, ◌$◌, ◌∵◌, !, qed, use1, frame, fsplit, fjoin, feq_i, show, done}
 use denote.ArrayMemory.{Array-whole}
 use denote.Index.{row}
 use denote.Memory.{part_at}

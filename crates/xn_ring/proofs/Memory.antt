@@ -4,7 +4,7 @@
 --     same_run                 a run depends on its places and values alone
 use Prim.Native.Nat.{ℕ, zero, suc, ◌+◌, ◌<◌, ◌≤◌, ◌^◌}
 use native.Mathlib.Omega.{arith}
-use mathlib.Core.Path.{◌≡◌, refl, sym, ap, subst, ◌∙◌}
+use mathlib.Core.Path.{◌≡◌, refl, sym, ap, subst}
 use mathlib.Core.List.{List, [], ◌∷◌}
 use seplogic.Ra.Ura.{Ura}
 use base.Fraction.{full_share}
@@ -12,13 +12,13 @@ use mir.Syntax.{Ty, w32}
 use mir.Val.{Val, vint, vstruct, vcons, vnil}
 use base.Logic.{SProp, ent, sep, emp, via, id⊢}
 use contract.Monad.{fact, fact_i}
-use base.Fml.{Fml, ftrue, ffalse, fsep, fat}
+use base.Fml.{Fml, ffalse, fsep, fat}
 use types.Logic.{Logic, sem}
-use types.Kit.{Item, Goal, Seq, Step, step, prop, ‵, raw, ◌⊛◌, some, use0, ◌$◌, ◌∵◌, !, qed, by, move, keep, drop, use1, use2, pick, split, frame, fsplit, fjoin, fpick, fpack, feq_i, flt_i, rewrite, done}
+use types.Kit.{Item, Goal, Seq, Step, step, prop, ‵, raw, ◌⊛◌, some, use0, ◌$◌, ◌∵◌, !, qed, move, drop, use1, use2, pick, split, frame, fsplit, fjoin, fpack, feq_i, flt_i, rewrite, done}
 use denote.RattleType.{Valss}
 use denote.Laws.{shows}
 use denote.Memory.{lone, part_at}
-use denote.RawPtr.{Ptr, null_ptr, block_ptr, ptr_val, lies_at, in_a_block}
+use denote.RawPtr.{Ptr, ptr_val, lies_at}
 use denote.Steps.{nothing, peeks, only}
 use denote.Struct.Struct.{within}
 use denote.Struct.Declared as Declared

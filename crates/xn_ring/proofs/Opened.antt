@@ -5,16 +5,16 @@
 use Prim.Native.Nat.{ℕ, ◌<◌, ◌^◌}
 use native.Mathlib.Omega.{arith}
 use mathlib.Core.Path.{◌≡◌, refl, sym, ap, ◌∙◌}
-use mathlib.Core.List.{List, [], ◌∷◌}
-use lib.ListN.{length, set, get_or}
+use mathlib.Core.List.{List, ◌∷◌}
+use lib.ListN.{length, set}
 use seplogic.Ra.Ura.{Ura}
 use base.Fraction.{full_share}
 use mir.Syntax.{w32}
-use mir.Val.{Val, vint, vptr, vstruct, vcons, vnil}
+use mir.Val.{Val, vint, vstruct, vcons, vnil}
 use base.Logic.{never, id⊢}
 use base.Fml.{Fml, fsep, fat}
 use types.Logic.{Logic}
-use types.Kit.{Item, Goal, Seq, Step, step, ‵, ◌$◌, !, move, use1, use2, fsplit, fjoin, rewrite}
+use types.Kit.{Item, Goal, Seq, Step, step, ‵, ◌$◌, use1, fsplit, fjoin, rewrite}
 use denote.RawPtr.{Ptr, block_ptr, ptr_val, lies_at, in_a_block}
 use Rattle.std.specs.Prelude.{◌≢◌}
 use Rattle.std.proofs.lemmas.List.{get_or-set_same, get_or-set_other}
@@ -23,7 +23,7 @@ use Rattle.xn_ring.specs.contracts.cells.DartCell as D
 use Rattle.xn_ring.specs.declared.cells.DartCell.{DartCell}
 use Rattle.xn_ring.specs.Cells.{place}
 use Rattle.xn_ring.specs.Ownership.{run, cell_of}
-use Rattle.xn_ring.proofs.Memory.{cell_ty, cell_val, cell_had, cell_made, hole, out, in_again}
+use Rattle.xn_ring.proofs.Memory.{cell_ty, cell_had, cell_made, hole, out, in_again}
 
 -- a cell with its three parts in sight
 abbrev pub parts : ℕ → Ptr → Ptr → Val

@@ -2,7 +2,6 @@
 use Rattle.std.proofs.Common.{◌≡◌, ℕ, suc, ◌+◌, ◌*◌, zero, ◌^◌, ◌≤◌, List, [], ◌∷◌, ◌++◌, length, map, refl, sym, ap, ◌∙◌, subst, arith}
 use Rattle.std.proofs.lemmas.List.{append_assoc, length-append, length-map, map-append}
 use Rattle.std.specs.List.{range_with_len}
-use denote.RawPtr.{Ptr}
 use Rattle.xn_ring.specs.declared.cells.Cells.{Cells}
 use Rattle.xn_ring.specs.declared.cells.Place.{Place}
 use Rattle.xn_ring.specs.Cells.{AreCells}

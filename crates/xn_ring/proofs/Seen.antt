@@ -3,12 +3,12 @@
 --     pointer_in, pointer_out, number_in, number_out      a word is opened, and shut
 use Prim.Native.Nat.{ℕ, zero, suc, ◌+◌, ◌<◌, ◌^◌}
 use native.Mathlib.Omega.{arith}
-use mathlib.Core.Path.{◌≡◌, refl, sym, subst}
+use mathlib.Core.Path.{◌≡◌, refl, subst}
 use mathlib.Core.List.{List, [], ◌∷◌}
 use seplogic.Ra.Ura.{Ura}
 use mir.Syntax.{w32, ty_int, ty_ptr}
 use mir.Val.{Val, vint}
-use base.Logic.{ent, via, fst∗, snd∗, id⊢}
+use base.Logic.{ent, via, fst∗, snd∗}
 use base.Fml.{Lft, Share, fat, flft}
 use types.Logic.{Logic, sem}
 use types.Kit.{Item, Goal, Seq, Step, Soaks, step, ‵, ◌$◌, move, drop, rewrite, fsplit, fjoin, feq_l, feq_i, flt_l, flt_i}

@@ -1,7 +1,7 @@
 -- A `&` to the cells is made where one to each is. Assumes `Logic`.
 use Prim.Native.Nat.{ℕ, zero, suc, ◌*◌}
 use seplogic.Ra.Ura.{Ura}
-use base.Fml.{Lft, Incl, ftrue}
+use base.Fml.{Lft, ftrue}
 use base.Fraction.{full_share}
 use types.Logic.{Logic}
 use denote.RawPtr.{Ptr, lies_at}

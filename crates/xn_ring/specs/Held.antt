@@ -1,8 +1,7 @@
 -- The table of a `Rings` and the cells that it leads to.
-use Rattle.std.specs.Prelude.{◌≡◌, ℕ, ◌+◌, ◌*◌, ◌^◌, ◌<◌, ◌≤◌, List, ◌++◌, length, map}
+use Rattle.std.specs.Prelude.{◌≡◌, ℕ, ◌^◌, ◌<◌, ◌≤◌, List, ◌++◌, length, map}
 use Rattle.std.specs.List.{range_with_len}
 use Rattle.std.specs.declared.alloc.Global.{Global}
-use denote.RawPtr.{Ptr}
 use Rattle.xn_model.specs.Lists.{at}
 use Rattle.xn_ring.specs.declared.cells.Cells.{Cells}
 use Rattle.xn_ring.specs.declared.cells.Place.{Place}

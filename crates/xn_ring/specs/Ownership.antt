@@ -1,11 +1,10 @@
 -- What the cells of a table of blocks own and lend.
-use Rattle.std.specs.Prelude.{ℕ, zero, suc, ◌+◌, ◌*◌, List}
+use Rattle.std.specs.Prelude.{ℕ, zero, suc, ◌*◌, List}
 use Rattle.std.specs.contracts.impls.GlobalAllocator.TheImpl.{ghosts}
 use Rattle.std.specs.declared.alloc.Global.{Global}
 use Rattle.xn_model.specs.Lists.{at}
 use base.Fraction.{full_share}
 use base.Fml.{Lft, Fml, ftrue, fsep}
-use mir.Syntax.{Ty}
 use mir.Raw.{raw}
 use denote.Array.{Array}
 use denote.Memory.{lone}

@@ -1,4 +1,4 @@
-use Rattle.std.proofs.Common.{ap, arith, length, subst, ◌<◌}
+use Rattle.std.proofs.Common.{ap, arith, length}
 use Rattle.xn_ring.proofs.Views.{next_below_seen}
 use Rattle.xn_ring.proofs.Rings.next.Goals as goal
 

@@ -1,4 +1,4 @@
-use Rattle.std.proofs.Common.{◌≡◌, ◌<◌, ap, arith, length, subst, sym, ◌∙◌}
+use Rattle.std.proofs.Common.{ap, arith, length, subst, sym}
 use Rattle.xn_model.specs.Lists.{at}
 use Rattle.xn_model.specs.Permutation.{IsSplice}
 use Rattle.xn_ring.proofs.Views.{length_seen, spliced, swapped_seen, IsSplice-swap}

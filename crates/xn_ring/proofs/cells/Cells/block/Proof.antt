@@ -10,7 +10,7 @@ use lib.ListN.{length}
 use lib.WfN.{lt-wf_rel}
 use base.Fraction.{full_share}
 use mir.Raw.{raw as bare}
-use mir.Syntax.{Body, named, w32, w64, ty_int}
+use mir.Syntax.{named, w32, ty_int}
 use mir.Val.{Val, vint, vptr}
 use base.Logic.{SProp, ent, emp, never, fst∗, id⊢}
 use base.Fml.{Fml, ftrue, fat, feq, flft, froom, fsep}
@@ -19,7 +19,7 @@ use contract.Monad.{fact, fact_i}
 use contract.Running.{tables, tables_of}
 use prog.Wp.{Env, Out, Wp, WpFn, at_return, after_seq, after_block, after_turn}
 use types.Logic.{sem}
-use types.Kit.{Item, Sq, runs, any_q, ‵, raw, ◌⊛◌, some, later, at_ret, ◌$◌, ◌∵◌, !, qed, by, move, keep, drop, use0, use1, use2, split, split3, join, fsplit, fjoin, feq_l, pick, await, rewrite, suffices, fsplit3, frame, group, done}
+use types.Kit.{Item, Sq, runs, any_q, ‵, raw, ◌⊛◌, some, later, at_ret, ◌$◌, ◌∵◌, !, qed, move, keep, drop, use0, use1, use2, split, split3, join, fsplit, fjoin, feq_l, pick, await, rewrite, suffices, fsplit3, frame, group, done}
 use types.Part.{agg}
 use types.Run.{stop, of_opd, lit, bin, un, init, no_more, and_then, assigns_last, first, blocks, skips, jumps, branches, exec, returns, enter, loops, again, Below}
 use types.ByLocal.{alloc_all, pass_all, free_all, look_at, get, through, sets, sets_last, lands_as, env, holding, forget_but, take_at, give_at}
@@ -27,7 +27,6 @@ use denote.Exit.{yes}
 use denote.ArrayMemory.{Array-apart}
 use denote.Builtin.{u32}
 use denote.Index.{row}
-use denote.Memory.{part_at}
 use denote.RawPtr.{Ptr, RawPtr, ◌+ₚ◌, lies_at, block_ptr, null_ptr, ptr_val, in_a_block}
 use denote.Ref.{MutRef}
 use denote.Signature.{plain}

@@ -1,14 +1,13 @@
 -- `cell` goes along a block to one of its cells. Assumes `Logic`.
-use Prim.Native.Nat.{ℕ, ◌+◌, ◌*◌, ◌/◌, ◌%◌, ◌<◌, ◌^◌}
+use Prim.Native.Nat.{◌+◌, ◌*◌, ◌/◌, ◌%◌, ◌<◌, ◌^◌}
 use native.Mathlib.Omega.{arith}
 use native.Mathlib.Nat.{add_comm}
 use mathlib.Core.Path.{◌≡◌, refl, sym, ap, ◌∙◌}
-use mathlib.Core.List.{List, [], ◌∷◌}
+use mathlib.Core.List.{[], ◌∷◌}
 use lib.Dec.{lit<}
 use lib.ListN.{length}
-use mir.Syntax.{named, w32, w64}
-use mir.Val.{Val, vint, vptr}
-use base.Logic.{ent, never, fst∗}
+use mir.Syntax.{named, w32}
+use base.Logic.{never, fst∗}
 use base.Fml.{ftrue, flft}
 use types.Logic.{sem}
 use contract.Monad.{fact}
@@ -22,7 +21,7 @@ use denote.Exit.{yes}
 use denote.Memory.{shared_of}
 use denote.Opens.{unhide}
 use denote.Plain.{uint_vals, uint_Tells}
-use denote.RawPtr.{Ptr, null_ptr, block_ptr, ptr_val, in_a_block, ◌+ₚ◌}
+use denote.RawPtr.{Ptr, block_ptr, ptr_val, in_a_block, ◌+ₚ◌}
 use denote.Ref.{ShrRef, shr_vals, shr_Tells}
 use denote.Signature.{plain}
 use denote.Steps.{nothing, heard}

@@ -1,12 +1,11 @@
 -- `none` owns nothing. Assumes `Logic`.
-use mathlib.Core.Path.{◌≡◌, refl}
-use mathlib.Core.List.{List, [], ◌∷◌}
+use mathlib.Core.Path.{refl}
+use mathlib.Core.List.{[], ◌∷◌}
 use mir.Val.{Val, vstruct, vcons, vnil}
 use base.Logic.{emp}
 use base.Fml.{ftrue}
-use types.Logic.{sem}
 use contract.Running.{tables}
-use types.Kit.{‵, raw, ◌⊛◌, ◌$◌, ◌∵◌, !, qed, move, keep, drop, use0, split, join, fjoin, suffices, done}
+use types.Kit.{‵, raw, ◌⊛◌, ◌$◌, ◌∵◌, !, qed, move, keep, use0, join, fjoin, suffices, done}
 use types.Part.{agg}
 use types.Run.{and_then, no_more, returns, enter}
 use types.ByLocal.{alloc_all, pass_all, free_all, look_at, get, sets}

@@ -1,16 +1,16 @@
 -- `prev` reads a pointer of one cell, and the number of the cell that it leads to. Assumes `Logic`.
-use Prim.Native.Nat.{ℕ, ◌+◌, ◌*◌, ◌<◌, ◌^◌}
+use Prim.Native.Nat.{◌+◌, ◌*◌, ◌<◌, ◌^◌}
 use native.Mathlib.Omega.{arith}
-use mathlib.Core.Path.{◌≡◌, refl, sym, ap, ◌∙◌}
-use mathlib.Core.List.{List, [], ◌∷◌}
+use mathlib.Core.Path.{◌≡◌, refl, ap, ◌∙◌}
+use mathlib.Core.List.{[], ◌∷◌}
 use mir.Syntax.{named, w32}
-use mir.Val.{Val, vint}
-use base.Logic.{ent, never, fst∗, id⊢}
+use mir.Val.{vint}
+use base.Logic.{never, fst∗}
 use base.Fml.{ftrue, flft}
 use types.Logic.{sem}
 use contract.Monad.{fact}
 use contract.Running.{tables}
-use types.Kit.{‵, raw, ◌⊛◌, at_ret, ◌$◌, ◌∵◌, !, qed, move, keep, drop, use1, split, split3, join, fsplit, fjoin, suffices, done}
+use types.Kit.{‵, raw, ◌⊛◌, at_ret, ◌$◌, ◌∵◌, !, qed, move, keep, drop, use1, split, split3, join, fsplit, suffices, done}
 use types.Part.{whole, sub}
 use types.Run.{stop, look, fld, load, of_opd, first, blocks, exec, returns, enter}
 use types.ByLocal.{alloc_all, pass_all, free_all, look_at, get, get_in, through, sets, sets_last, is, env}
@@ -19,14 +19,14 @@ use denote.Exit.{yes}
 use denote.Memory.{shared_of}
 use denote.Opens.{hide, unhide, laws_dup}
 use denote.Plain.{uint_Makes, uint_vals, uint_Tells}
-use denote.RawPtr.{Ptr, null_ptr, block_ptr, ptr_val, in_a_block}
+use denote.RawPtr.{ptr_val, in_a_block}
 use denote.Ref.{ShrRef, shr_vals, shr_Tells}
 use denote.Signature.{plain}
 use denote.Steps.{nothing, owned, heard}
 use denote.Struct.Lending.{lent_at}
 use denote.Triple.Walked.{Stays, walk_of, says, stay_dropped, Goes-dropped, ends_at}
 use Rattle.std.proofs.VecSteps.Shapes.{after}
-use Rattle.std.proofs.RcSteps.{word, word-Good, Ptr-Good}
+use Rattle.std.proofs.RcSteps.{word-Good}
 use Rattle.std.proofs.raw_atomic.Walks.{proved}
 use Rattle.std.specs.Prelude.{length}
 use Rattle.xn_model.specs.Lists.{at}

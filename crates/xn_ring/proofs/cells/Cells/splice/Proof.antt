@@ -1,35 +1,33 @@
 -- `splice` sets two pointers forward and two back. Assumes `Logic`.
-use Prim.Native.Nat.{ℕ, ◌+◌, ◌*◌, ◌<◌, ◌^◌}
+use Prim.Native.Nat.{ℕ, ◌*◌, ◌<◌}
 use native.Mathlib.Omega.{arith}
-use mathlib.Core.Path.{◌≡◌, refl, sym, ap, subst, ◌∙◌}
+use mathlib.Core.Path.{◌≡◌, refl, sym, ap, ◌∙◌}
 use mathlib.Core.List.{List, [], ◌∷◌}
-use lib.ListN.{length, set, get_or, length-set}
-use base.Fraction.{full_share}
+use lib.ListN.{length, set, length-set}
 use mir.Syntax.{named, w32}
-use mir.Val.{Val, vint, vunit}
-use base.Fml.{Fml, ftrue, flft, fsep}
+use mir.Val.{vunit}
+use base.Fml.{ftrue, flft}
 use contract.Monad.{fact}
 use contract.Running.{tables}
-use types.Kit.{‵, raw, ◌⊛◌, at_ret, ◌$◌, ◌∵◌, !, qed, move, keep, drop, split, split3, join, fsplit, fsplit3, fjoin, feq_i, rewrite, suffices, frame, group, done}
+use types.Kit.{‵, raw, ◌⊛◌, at_ret, ◌$◌, ◌∵◌, !, qed, move, keep, split, split3, join, fsplit, fsplit3, fjoin, feq_i, rewrite, suffices, frame, group, done}
 use types.Part.{whole, sub, look_in, store_in}
 use types.Run.{stop, fld, load, of_opd, unit_lit, assigns, assigns_last, first, blocks, exec, returns, enter}
 use types.ByLocal.{alloc_all, pass_all, free_all, look_at, get, get_in, through, sets, is, env}
 use denote.Builtin.{u32}
 use denote.Exit.{yes}
 use denote.Plain.{uint_vals, uint_Tells}
-use denote.RawPtr.{Ptr, block_ptr, ptr_val}
+use denote.RawPtr.{ptr_val}
 use denote.Ref.{MutRef, mut_vals, mut_Tells}
 use denote.Signature.{plain}
 use denote.Steps.{nothing, heard, opens, closes}
-use denote.Triple.Walked.{Stays, walk_of, says, stay_ref, stay_dropped, Goes-ref, Goes-dropped, ends_at}
+use denote.Triple.Walked.{Stays, walk_of, stay_ref, stay_dropped, Goes-ref, Goes-dropped, ends_at}
 use Rattle.std.proofs.VecSteps.Shapes.{after}
 use Rattle.std.proofs.RcSteps.{word-Good}
 use Rattle.std.proofs.raw_atomic.Walks.{proved}
-use Rattle.std.proofs.lemmas.List.Edits.{swap_is, length-swap}
+use Rattle.std.proofs.lemmas.List.Edits.{swap_is}
 use Rattle.std.specs.List.{swap}
 use Rattle.xn_model.specs.Lists.{at}
 use Rattle.xn_ring.specs.Cells.{AreCells, place}
-use Rattle.xn_ring.specs.Ownership.{run, cell_of, tokens}
 use Rattle.xn_ring.specs.declared.cells.Cells.{Cells}
 use Rattle.xn_ring.specs.contracts.cells.Cells as C
 use Rattle.xn_ring.specs.contracts.cells.Place as P
