@@ -25,9 +25,9 @@ pub record Provides (blocks : List Place) (old new : Cells) (k wanted capacity l
   pub small : 1024 * wanted ≤ 2 ^ 32
 
 module _ (blocks blocks' : List Place) (old cells new : Cells) (p : Place) (s k wanted capacity capacity' len : ℕ) (was : Provides blocks old cells k wanted capacity len)
-  (leads : (new.table ≡ cells.table ++ p.ptr ∷ []) × (new.left ≡ cells.left + 1) × (new.alloc ≡ cells.alloc))
-  (next_is : new.next ≡ cells.next ++ range_with_len s 1024) (prev_is : new.prev ≡ cells.prev ++ range_with_len s 1024)
-  (s_is : s ≡ 1024 * k) (pushed : blocks' ≡ blocks ++ p ∷ []) (kept : capacity' ≡ capacity) where
+    (leads : (new.table ≡ cells.table ++ p.ptr ∷ []) × (new.left ≡ cells.left + 1) × (new.alloc ≡ cells.alloc))
+    (next_is : new.next ≡ cells.next ++ range_with_len s 1024) (prev_is : new.prev ≡ cells.prev ++ range_with_len s 1024)
+    (s_is : s ≡ 1024 * k) (pushed : blocks' ≡ blocks ++ p ∷ []) (kept : capacity' ≡ capacity) where
   held : AreHeld blocks cells
   held = was.grown.held
 

@@ -28,8 +28,16 @@ take-swap xs m a b fewer a_in b_in =
     let swapped : length (take m (swap xs a b)) ≡ m = length-take-le m (swap xs a b) (omega (arith, length-swap xs a b, fewer)) in
     ext_get_or 0 (take m (swap xs a b)) (swap (take m xs) a b) (swapped ∙ sym (length-swap (take m xs) a b ∙ long)) (λ d below.
     let d_in : d < m = omega (arith, swapped, below) in
-    grind (arith, common_steps, get_or-take m (swap xs a b) d 0 d_in, at-swap xs a b d (omega arith) (omega arith) (omega arith),
-    at-swap (take m xs) a b d (omega (arith, long)) (omega (arith, long)) (omega (arith, long)), get_or-take m xs d 0 d_in, get_or-take m xs a 0 a_in, get_or-take m xs b 0 b_in))
+    grind (
+      arith,
+      common_steps,
+      get_or-take m (swap xs a b) d 0 d_in,
+      at-swap xs a b d (omega arith) (omega arith) (omega arith),
+      at-swap (take m xs) a b d (omega (arith, long)) (omega (arith, long)) (omega (arith, long)),
+      get_or-take m xs d 0 d_in,
+      get_or-take m xs a 0 a_in,
+      get_or-take m xs b 0 b_in,
+    ))
 
 -- two successors swapped, as a step of a permutation
 pub IsSplice-swap : (xs : List ℕ) (a b : ℕ) → a < length xs → b < length xs → IsSplice (length xs) a b (at xs) (at (swap xs a b))

@@ -48,9 +48,8 @@ struct Plain {
     prev: Vec<u32>,
 }
 
-fn grow_plain(plain: &mut Plain, n: u32) -> Result<(), AllocError> {
-    for _ in 0..n {
-        let d = plain.next.len() as u32;
+fn grow_plain(plain: &mut Plain, from: u32, to: u32) -> Result<(), AllocError> {
+    for d in from..to {
         plain.next.push(d)?;
         plain.prev.push(d)?;
     }
@@ -84,10 +83,10 @@ fn three_blocks_are_as_two_vectors(rt: HostRuntime) -> Result<(), Fail> {
         next: Vec::new(rt.alloc()),
         prev: Vec::new(rt.alloc()),
     };
-    for _ in 0..3 {
+    for (from, to) in [(0, 1000), (1000, 2000), (2000, 3000)] {
         assert!(rt; rings.len() <= 2000);
         rings.grow(1000)?;
-        grow_plain(&mut plain, 1000)?;
+        grow_plain(&mut plain, from, to)?;
         are_alike(&rt, &rings, &plain);
     }
     assert!(rt; rings.len() == 3000);
