@@ -108,9 +108,13 @@ impl Judge {
             }
             Item::Path(path) => self.rows.path(alloc, graph, number, path),
             Item::Extension(list) => self.rows.extension(alloc, graph, number, list),
-            Item::Step(node) => self
-                .tree
-                .step(number, self.front.lower(), self.rows.whole(), &node),
+            Item::Step(node) => self.tree.step(
+                alloc,
+                number,
+                self.front.lower(),
+                self.rows.whole(),
+                &node,
+            ),
             Item::End => self.tree.end(number),
             line => {
                 self.front.test(alloc, graph, self.loops, number, &line)?;

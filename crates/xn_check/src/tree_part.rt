@@ -8,7 +8,7 @@ ghost use Rattle.xn_kinds.specs.declared.flaws.FlawKind.TheVariants.{TreeShape, 
 ghost use Rattle.xn_kinds.specs.declared.trees.Node.TheVariants.{Leaf};
 ghost use Rattle.xn_tree.specs.Walk.{pending_of};
 ghost use Rattle.xn_check.specs.Judging.{RefusesLine};
-ghost use Rattle.xn_check.specs.Meaning.{MayOpenFirst, StepFails, need_of};
+ghost use Rattle.xn_check.specs.Meaning.{LeafKeeps, MayOpenFirst, StepFails, need_of};
 ghost use Rattle.xn_check.specs.Parts.{IsInRange, tree_of};
 ghost use Rattle.xn_check.specs.TreeSaid.{no_tree, tree_said};
 
@@ -18,7 +18,7 @@ use std::marker::Model;
 use xn_graph::Graph;
 use xn_kinds::{FlawKind, Node, Row};
 use xn_proof::{AnswerErr, Item};
-use xn_tree::{TreeWalk, bound};
+use xn_tree::{Scale, TreeWalk};
 
 /// What was said of the tree of an answer for a graph.
 ///
@@ -26,6 +26,7 @@ use xn_tree::{TreeWalk, bound};
 #[derive(Drop)]
 pub struct TreePart {
     walk: TreeWalk,
+    scale: Scale,
     nodes: u64,
 }
 
@@ -45,6 +46,7 @@ impl TreePart {
     {
         Ok(TreePart {
             walk: TreeWalk::new(alloc, graph)?,
+            scale: Scale::new(alloc),
             nodes: 0,
         })
     }
@@ -59,6 +61,7 @@ impl TreePart {
     /// The next node, at a line with this number: it has to keep its rule in a proof of `lower` by these rows, which hold.
     pub fn step(
         &mut self,
+        alloc: Global,
         number: u64,
         lower: u32,
         rows: &[Row],
@@ -71,9 +74,7 @@ impl TreePart {
         ensures judged { MatchResult result (λ _. MayOpenFirst self.old.walk.graph lower rows.now (pending_of self.old.walk) node.now)
             (RefusesLine number (StepFails self.old.walk.graph lower rows.now (pending_of self.old.walk) self.old.nodes node.now)) }
     {
-        if let Node::Leaf { d, parts } = node {
-            self.test_leaf(number, lower, rows, *d, parts.as_slice())?;
-        }
+        self.test(alloc, number, lower, rows, node)?;
         if !self.walk.open(node)? {
             return Err(self.misshapen(number));
         }
@@ -93,19 +94,49 @@ impl TreePart {
         Ok(())
     }
 
+    // A node in the first pending state, where it is a leaf.
+    fn test(
+        &mut self,
+        alloc: Global,
+        number: u64,
+        lower: u32,
+        rows: &[Row],
+        node: &Node,
+    ) -> Result<(), AnswerErr>
+        requires hold { All (RowHolds self.old.walk.graph) rows.now }
+        requires range { IsInRange (length rows.now) node.now }
+        ensures same { self.new ≡ self.old }
+        ensures judged { MatchResult result (λ _. LeafKeeps self.old.walk.graph lower rows.now (pending_of self.old.walk) node.now)
+            (RefusesLine number (StepFails self.old.walk.graph lower rows.now (pending_of self.old.walk) self.old.nodes node.now)) }
+    {
+        match node {
+            Node::Leaf { d, parts } => self.test_leaf(
+                alloc,
+                number,
+                lower,
+                rows,
+                *d,
+                parts.as_slice(),
+            ),
+            _ => Ok(()),
+        }
+    }
+
     // A leaf in the first pending state.
     fn test_leaf(
-        &self,
+        &mut self,
+        alloc: Global,
         number: u64,
         lower: u32,
         rows: &[Row],
         d: u64,
         parts: &[(u32, u64)],
     ) -> Result<(), AnswerErr>
-        requires hold { All (RowHolds self.now.walk.graph) rows.now }
+        requires hold { All (RowHolds self.old.walk.graph) rows.now }
         requires range { IsInRange (length rows.now) (Leaf d parts.now) }
-        ensures { MatchResult result (λ _. MayOpenFirst self.now.walk.graph lower rows.now (pending_of self.now.walk) (Leaf d parts.now))
-            (RefusesLine number (StepFails self.now.walk.graph lower rows.now (pending_of self.now.walk) self.now.nodes (Leaf d parts.now))) }
+        ensures same { self.new ≡ self.old }
+        ensures judged { MatchResult result (λ _. MayOpenFirst self.old.walk.graph lower rows.now (pending_of self.old.walk) (Leaf d parts.now))
+            (RefusesLine number (StepFails self.old.walk.graph lower rows.now (pending_of self.old.walk) self.old.nodes (Leaf d parts.now))) }
     {
         if self.walk.is_finished() {
             return Err(self.misshapen(number));
@@ -113,7 +144,7 @@ impl TreePart {
         if !rises(parts) {
             return Err(self.misshapen(number));
         }
-        let bound = self.leaf_bound(rows, d, parts);
+        let bound = self.leaf_bound(alloc, rows, d, parts)?;
         let need = need_of(lower, d);
         if bound > need {
             return Ok(());
@@ -122,13 +153,20 @@ impl TreePart {
     }
 
     // The bound of a leaf in the first pending state.
-    fn leaf_bound(&self, rows: &[Row], d: u64, parts: &[(u32, u64)]) -> i128
-        requires hold { All (RowHolds self.now.walk.graph) rows.now }
+    fn leaf_bound(
+        &mut self,
+        alloc: Global,
+        rows: &[Row],
+        d: u64,
+        parts: &[(u32, u64)],
+    ) -> Result<i128, AllocError>
+        requires hold { All (RowHolds self.old.walk.graph) rows.now }
         requires range { IsInRange (length rows.now) (Leaf d parts.now) }
         requires rise { IsStrictlyIncreasing (map (λ p. p.0) parts.now) }
-        ensures { (t : State) (rest : List State) → pending_of self.now.walk ≡ t ∷ rest → IsBound self.now.walk.graph rows.now t d parts.now result }
+        ensures same { self.new ≡ self.old }
+        ensures bound { IfOk result (λ b. (t : State) (rest : List State) → pending_of self.old.walk ≡ t ∷ rest → IsBound self.old.walk.graph rows.now t d parts.now b) }
     {
-        bound(self.walk.graph(), self.walk.given(), rows, parts, d)
+        self.scale.bound(alloc, self.walk.graph(), self.walk.given(), rows, parts, d)
     }
 
     // The line doesn't go on with the tree.

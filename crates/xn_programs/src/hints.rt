@@ -12,7 +12,7 @@ use xn_frac::Frac;
 use xn_graph::Graph;
 use xn_kinds::{Node, Row, Var};
 use xn_search::Claim;
-use xn_tree::Given;
+use xn_tree::{Given, Scale};
 
 /// The known rows as sums, the program of the state, and the rows that the pending states begin with.
 #[derive(Drop)]
@@ -20,6 +20,7 @@ pub struct Hints {
     lines: Lines,
     frames: Frames,
     program: Program,
+    scale: Scale,
 }
 
 /// What is seen of a row that is new to the program.
@@ -40,6 +41,7 @@ impl Hints {
             lines: Lines::new(alloc),
             frames: Frames::new(alloc),
             program: Program::new(alloc),
+            scale: Scale::new(alloc),
         }
     }
 
@@ -71,6 +73,11 @@ impl Hints {
     /// The program of the state.
     pub fn program_mut(&mut self) -> &mut Program {
         &mut self.program
+    }
+
+    /// What weighs leaves.
+    pub fn scale_mut(&mut self) -> &mut Scale {
+        &mut self.scale
     }
 
     /// The point of the program, with the pairs of the graph in rising order.

@@ -8,12 +8,12 @@ ghost use Rattle.xn_kinds.specs.Tree.{MayOpen};
 ghost use Rattle.xn_tree.specs.Given.{state_of};
 ghost use Rattle.xn_programs.specs.Turns.{IsTurn};
 
-use crate::programs::Program;
+use crate::hints::Hints;
 use std::alloc::{AllocError, Global};
 use xn_kinds::{Node, Row};
 use xn_list::Sequence;
 use xn_search::Claim;
-use xn_tree::{Given, bound};
+use xn_tree::{Given, Scale};
 
 /// How many units of a multiplier one unit of a price is: where the first isn't exact enough, the next is
 /// tried.
@@ -49,15 +49,15 @@ pub fn by_prices(
     claim: &Claim,
     given: &Given,
     rows: &[Row],
-    program: &Program,
+    hints: &mut Hints,
 ) -> Result<Turn, AllocError>
     requires graph { given.now.graph ≡ claim.now.graph.now }
     requires hold { All (RowHolds claim.now.graph.now) rows.now }
     ensures { IfOk result (IsTurn claim.now.graph.now claim.now.crossings rows.now (state_of given.now)) }
 {
     for d in SCALES {
-        let parts = program.priced(alloc, d)?;
-        if let Some(leaf) = judged(claim, given, rows, d, parts) {
+        let parts = hints.program().priced(alloc, d)?;
+        if let Some(leaf) = judged(alloc, hints.scale_mut(), claim, given, rows, d, parts)? {
             return Ok(Turn::Closed(leaf));
         }
     }
@@ -70,15 +70,15 @@ pub fn by_ray(
     claim: &Claim,
     given: &Given,
     rows: &[Row],
-    program: &Program,
+    hints: &mut Hints,
 ) -> Result<Turn, AllocError>
     requires graph { given.now.graph ≡ claim.now.graph.now }
     requires hold { All (RowHolds claim.now.graph.now) rows.now }
     ensures { IfOk result (IsTurn claim.now.graph.now claim.now.crossings rows.now (state_of given.now)) }
 {
     for scale in RAY_SCALES {
-        let parts = program.rayed(alloc, scale)?;
-        if let Some(leaf) = judged(claim, given, rows, 1, parts) {
+        let parts = hints.program().rayed(alloc, scale)?;
+        if let Some(leaf) = judged(alloc, hints.scale_mut(), claim, given, rows, 1, parts)? {
             return Ok(Turn::Closed(leaf));
         }
     }
@@ -91,6 +91,7 @@ pub fn by_row_alone(
     claim: &Claim,
     given: &Given,
     rows: &[Row],
+    hints: &mut Hints,
     number: u32,
 ) -> Result<Turn, AllocError>
     requires graph { given.now.graph ≡ claim.now.graph.now }
@@ -99,7 +100,7 @@ pub fn by_row_alone(
 {
     let part = (number, u64::from(claim.crossings));
     let parts = vec![in alloc; part]?;
-    match judged(claim, given, rows, 1, parts) {
+    match judged(alloc, hints.scale_mut(), claim, given, rows, 1, parts)? {
         Some(leaf) => Ok(Turn::Closed(leaf)),
         None => Ok(Turn::Lost),
     }
@@ -107,27 +108,29 @@ pub fn by_row_alone(
 
 // The leaf with these parts, where their numbers are in range and its bound shows that it closes the state.
 fn judged(
+    alloc: Global,
+    scale: &mut Scale,
     claim: &Claim,
     given: &Given,
     rows: &[Row],
     d: u64,
     parts: Vec<(u32, u64)>,
-) -> Option<Node>
+) -> Result<Option<Node>, AllocError>
     requires graph { given.now.graph ≡ claim.now.graph.now }
     requires hold { All (RowHolds claim.now.graph.now) rows.now }
-    ensures { IfSome result (MayOpen claim.now.graph.now claim.now.crossings rows.now (state_of given.now)) }
+    ensures { IfOk result (λ r. IfSome r (MayOpen claim.now.graph.now claim.now.crossings rows.now (state_of given.now))) }
 {
     if d == 0 || d >= 1 << 63 || parts.len() > MOST_PARTS || !fit(rows.len(), parts.as_slice()) {
-        return None;
+        return Ok(None);
     }
-    let least = bound(claim.graph, given, rows, parts.as_slice(), d);
+    let least = scale.bound(alloc, claim.graph, given, rows, parts.as_slice(), d)?;
     if least <= need_of(claim.crossings, d) {
-        return None;
+        return Ok(None);
     }
-    Some(Node::Leaf {
+    Ok(Some(Node::Leaf {
         d,
         parts: Sequence::new(parts),
-    })
+    }))
 }
 
 // What the bound of a leaf has to pass.

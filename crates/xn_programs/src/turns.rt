@@ -168,12 +168,12 @@ fn solve_once(
     ensures { IfOk result (IsTurn claim.now.graph.now claim.now.crossings rows.now (state_of given.now)) }
 {
     if let Some(number) = hints.program().hopeless() {
-        return by_row_alone(alloc, claim, given, rows, number);
+        return by_row_alone(alloc, claim, given, rows, hints, number);
     }
     match hints.program_mut().solve(claim.crossings) {
         Outcome::Best => Ok(Turn::Open),
         Outcome::Stalled => Ok(Turn::Lost),
-        Outcome::Passed => by_prices(alloc, claim, given, rows, hints.program()),
-        Outcome::Nothing => by_ray(alloc, claim, given, rows, hints.program()),
+        Outcome::Passed => by_prices(alloc, claim, given, rows, hints),
+        Outcome::Nothing => by_ray(alloc, claim, given, rows, hints),
     }
 }

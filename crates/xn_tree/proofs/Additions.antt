@@ -50,6 +50,12 @@ has_place (x ∷ xs) q h = elim (or_cases (eqb x q) (has xs q) h) [
   | inr later ↦ let place = has_place xs q later in (suc place.0, omega (arith, place.1), place.2)
 ]
 
+-- the edges of a row are edges of the graph
+pub edge_in : (g : Graph) (row : Row) → IsRowOf g row → (q : ℕ) → has row.edges q ≡ true → q < length g.ends
+edge_in g row is_row q h =
+    let place = has_place row.edges q h in
+    omega (arith, is_row.orders.edge_list.below place.0 0 place.1, place.2)
+
 module _ (g : Graph) (row : Row) (is_row : IsRowOf g row) (few : length g.ends ≤ 1000) where
   edge_below : (q : ℕ) → has row.edges q ≡ true → q < 1000
   edge_below q h =

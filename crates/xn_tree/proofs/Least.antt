@@ -7,6 +7,7 @@ use Rattle.xn_model.specs.Lists.{has, one_if, stands_before}
 use Rattle.xn_kinds.specs.Row.{Values}
 use Rattle.xn_kinds.specs.State.{State, InBox}
 use Rattle.xn_kinds.specs.Bound.{IsLeastOver}
+use Rattle.xn_tree.specs.Given.{or_zero}
 use Rattle.xn_tree.specs.Leaf.{IsSmall}
 use Rattle.xn_tree.specs.Least.{Allows, IsChange, IsLesser, Moves, Weighs, order_given, with_before, with_cross}
 
@@ -142,20 +143,14 @@ least_none (Some false) = refl
 least_none None = (omega (arith, ints), omega (arith, ints), inl refl)
 
 -- the given values, and 0 where none is given
-or_zero : Option Bool → ℕ
-or_zero None = 0
-or_zero (Some x) = one_if x
-
-values_of : State → Values
+abbrev pub values_of : State → Values
 values_of s = record { crosses = λ e f. or_zero (s.decided e f); before = λ e f g. one_if (stands_before (s.placed e) f g) }
 
-or_zero-le : (o : Option Bool) → or_zero o ≤ 1
-unfolding or_zero
+pub or_zero-le : (o : Option Bool) → or_zero o ≤ 1
 or_zero-le None = omega arith
 or_zero-le (Some x) = one_if-le x
 
-values_in_box : (s : State) → InBox s (values_of s)
-unfolding values_of or_zero
+pub values_in_box : (s : State) → InBox s (values_of s)
 values_in_box s = record {
   crosses_small = λ e f. or_zero-le (s.decided e f);
   before_small = λ e f g. one_if-le (stands_before (s.placed e) f g);

@@ -16,7 +16,7 @@ use Rattle.xn_tree.specs.Leaf.{IsRowOf, cross_value, crosses_from, each_pair, pa
 
 -- ---- sums over pairs
 
-abbrev each_two_sum : (ℕ → ℕ → ℕ) → List ℕ → ℕ
+abbrev pub each_two_sum : (ℕ → ℕ → ℕ) → List ℕ → ℕ
 each_two_sum h [] = 0
 each_two_sum h (e ∷ es) = total (h e) es + each_two_sum h es
 
@@ -24,7 +24,7 @@ total-append : {A : Type 0} (f : A → ℕ) (xs ys : List A) → total f (xs ++ 
 total-append f [] ys = omega arith
 total-append f (x ∷ xs) ys = omega (arith, total-append f xs ys)
 
-total-same : {A : Type 0} (f h : A → ℕ) (xs : List A) → ((x : A) → f x ≡ h x) → total f xs ≡ total h xs
+pub total-same : {A : Type 0} (f h : A → ℕ) (xs : List A) → ((x : A) → f x ≡ h x) → total f xs ≡ total h xs
 total-same f h [] same = refl
 total-same f h (x ∷ xs) same = omega (arith, same x, total-same f h xs same)
 
@@ -40,7 +40,7 @@ module _ (ends : List (ℕ × ℕ)) (t : ℕ × ℕ → ℕ) where
     | inr meet ↦ rw (meet, along_one e es) (omega arith)
   ]
 
-  pairs_sum : (es : List ℕ) → total t (pairs_of ends es) ≡ each_two_sum (λ e f. cond (independent ends e f) (t (e, f)) 0) es
+  pub pairs_sum : (es : List ℕ) → total t (pairs_of ends es) ≡ each_two_sum (λ e f. cond (independent ends e f) (t (e, f)) 0) es
   pairs_sum [] = refl
   pairs_sum (e ∷ es) =
       let first = filter (λ (p : ℕ × ℕ). independent ends p.0 p.1) (map (λ f. (e, f)) es) in
@@ -55,7 +55,7 @@ total-filter p h (x ∷ xs) = elim (cases_Bool (p x)) [
   | inr fails ↦ rw (fails, total-filter p h xs) (omega arith)
 ]
 
-total-none : {A : Type 0} (xs : List A) → total (λ x. 0) xs ≡ 0
+pub total-none : {A : Type 0} (xs : List A) → total (λ x. 0) xs ≡ 0
 total-none [] = refl
 total-none (x ∷ xs) = omega (arith, total-none xs)
 
@@ -167,7 +167,7 @@ exchange {B = B} m h (p ∷ ps) qs = omega (arith, exchange m h ps qs, add_total
     add_total f k [] = omega arith
     add_total f k (y ∷ ys) = omega (arith, add_total f k ys)
 
-times_less : (m n : ℕ) → pos m *ℤ (pos n -ℤ pos 1) ≡ pos (m * n) -ℤ pos m
+pub times_less : (m n : ℕ) → pos m *ℤ (pos n -ℤ pos 1) ≡ pos (m * n) -ℤ pos m
 times_less m zero = omega (arith, ints)
 times_less m (suc n) =
     let less : pos (suc n) -ℤ pos 1 ≡ pos n = omega (arith, ints) in

@@ -19,7 +19,7 @@ pub pair_place-lt : (m e f : ℕ) → e < m → f < m → pair_place m e f < m *
 pair_place-lt m e f e_in f_in = row_ends m e m f e_in f_in
 
 -- and no two pairs have the same
-same_pair : (m a b e f : ℕ) → b < m → f < m → a * m + b ≡ e * m + f → (a ≡ e) × (b ≡ f)
+pub same_pair : (m a b e f : ℕ) → b < m → f < m → a * m + b ≡ e * m + f → (a ≡ e) × (b ≡ f)
 same_pair m a b e f b_in f_in same = elim (cases_order a e) [
   | inl here ↦ (here, omega (arith, same, ap (λ x. x * m) here))
   | inr (inl before) ↦ absurd (omega (arith, same, row_ends m a e b before b_in))
@@ -52,10 +52,10 @@ module _ (m : ℕ) (pairs : List (Option Bool)) (fits : length pairs ≡ m * m) 
   ]
 
 -- with another entry in the table
-pub state-set_entry : (g : Graph) (pairs : List (Option Bool)) (placed : List (List ℕ)) → length pairs ≡ length g.ends * length g.ends →
+pub state-set_entry : (g : Graph) (pairs : List (Option Bool)) (placed : List (List ℕ)) (ones : ℕ) → length pairs ≡ length g.ends * length g.ends →
     (e f : ℕ) → e < f → f < length g.ends → (entry : Option Bool) →
-    state_of (situation_of g (set pairs (pair_place (length g.ends) e f) entry) placed) ≡ with_entry (state_of (situation_of g pairs placed)) e f entry
-state-set_entry g pairs placed fits e f rises within entry =
+    state_of (situation_of g (set pairs (pair_place (length g.ends) e f) entry) placed ones) ≡ with_entry (state_of (situation_of g pairs placed ones)) e f entry
+state-set_entry g pairs placed ones fits e f rises within entry =
     λ i. record { decided = λ a b. entry-set (length g.ends) pairs fits e f rises within entry a b i; placed = λ a. get_or placed a [] }
 
 list-set : (placed : List (List ℕ)) (e : ℕ) (xs : List ℕ) → e < length placed → (a : ℕ) →
@@ -70,7 +70,7 @@ abbrev pub with_list : State → ℕ → List ℕ → State
 with_list s e xs = record s { placed = λ a. cond (eqb a e) xs (s.placed a) }
 
 -- with another list along an edge
-pub state-set_list : (g : Graph) (pairs : List (Option Bool)) (placed : List (List ℕ)) (e : ℕ) (xs : List ℕ) → e < length placed →
-    state_of (situation_of g pairs (set placed e xs)) ≡ with_list (state_of (situation_of g pairs placed)) e xs
-state-set_list g pairs placed e xs within =
+pub state-set_list : (g : Graph) (pairs : List (Option Bool)) (placed : List (List ℕ)) (ones e : ℕ) (xs : List ℕ) → e < length placed →
+    state_of (situation_of g pairs (set placed e xs) ones) ≡ with_list (state_of (situation_of g pairs placed ones)) e xs
+state-set_list g pairs placed ones e xs within =
     λ i. record { decided = entry_in (length g.ends) pairs; placed = λ a. list-set placed e xs within a i }

@@ -5,13 +5,20 @@ mod bounds;
 mod crossings;
 mod leasts;
 mod leaves;
+mod ledgers;
 mod lists;
+mod order_ledgers;
+mod order_sums;
+mod pair_sums;
+mod scales;
 mod states;
+mod tables;
 #[cfg(test)]
 mod tests;
 mod turns;
 mod walks;
 
 pub use bounds::bound;
+pub use scales::Scale;
 pub use states::Given;
 pub use walks::{Choice, TreeWalk};

@@ -3,7 +3,7 @@ ghost use Rattle.xn_model.specs.Graph.{Independent};
 ghost use Rattle.xn_model.specs.Lists.{has};
 ghost use Rattle.xn_list.specs.Lists.{lists_of};
 ghost use Rattle.xn_kinds.specs.State.{Crosses, IsState, decide, empty_state, place};
-ghost use Rattle.xn_tree.specs.Given.{pair_place, state_of};
+ghost use Rattle.xn_tree.specs.Given.{ones_given, or_zero, pair_place, state_of};
 ghost use Rattle.xn_tree.specs.Steps.{shift, undecide, unplace, value_in};
 
 use std::alloc::{AllocError, Global};
@@ -20,6 +20,7 @@ pub struct Given {
     graph: Graph,
     pairs: Vec<Option<bool>>,
     placed: Vec<Vec<u32>>,
+    ones: u32,
 }
 
 impl Model for Given {
@@ -28,9 +29,9 @@ impl Model for Given {
 
     ghost Value = { Situation };
 
-    ghost view = { λ s. situation_of s.graph s.pairs.items (lists_of s.placed.items) };
+    ghost view = { λ s. situation_of s.graph s.pairs.items (lists_of s.placed.items) s.ones };
 
-    ghost invariant = { λ s. IsGiven (situation_of s.graph s.pairs.items (lists_of s.placed.items)) };
+    ghost invariant = { λ s. IsGiven (situation_of s.graph s.pairs.items (lists_of s.placed.items) s.ones) };
 }
 
 impl Given {
@@ -45,6 +46,7 @@ impl Given {
             graph: graph.copy(alloc)?,
             pairs,
             placed: empty_lists(alloc, edges)?,
+            ones: 0,
         })
     }
 
@@ -77,7 +79,9 @@ impl Given {
         ensures graph { self.new.graph ≡ self.old.graph }
         ensures state { state_of self.new ≡ decide (state_of self.old) (min e f) (max e f) one }
     {
+        prove!(self.graph.edges() <= 1_000);
         let place = self.place_of(e, f);
+        self.ones += one_of(Some(one));
         self.pairs[place] = Some(one);
     }
 
@@ -90,6 +94,7 @@ impl Given {
         ensures state { state_of self.new ≡ undecide (state_of self.old) (min e f) (max e f) }
     {
         let place = self.place_of(e, f);
+        self.ones -= one_of(self.value(e, f));
         self.pairs[place] = None;
     }
 
@@ -113,6 +118,15 @@ impl Given {
         ensures state { state_of self.new ≡ unplace (state_of self.old) e at }
     {
         self.placed[e as usize].remove(at as usize);
+    }
+
+    /// How many pairs are decided to cross.
+    pub fn ones(&self) -> u32
+        ensures ones { result ≡ ones_given self.now.graph (state_of self.now) }
+        ensures few { result ≤ 1000000 }
+    {
+        prove!(self.graph.edges() <= 1_000);
+        self.ones
     }
 
     // The entries at a position along e and at the next change places. It takes no memory.
@@ -140,6 +154,16 @@ impl Given {
     {
         let edges = self.graph.edges() as usize;
         e.min(f) as usize * edges + e.max(f) as usize
+    }
+}
+
+// Whether the entry is a pair that crosses, as a number.
+fn one_of(entry: Option<bool>) -> u32
+    ensures { result ≡ or_zero entry }
+{
+    match entry {
+        Some(one) => u32::from(one),
+        None => 0,
     }
 }
 

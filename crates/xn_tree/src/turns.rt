@@ -72,8 +72,8 @@ fn turn_weights(leaf: &Leaf, before: usize, e: u32, f: u32, g: u32) -> (u128, u1
     (zero, one)
 }
 
-// Whether f stands before g in the list, if both are in it.
-fn order_in(list: &[u32], f: u32, g: u32) -> Option<bool>
+/// Whether f stands before g in the list, if both are in it.
+pub fn order_in(list: &[u32], f: u32, g: u32) -> Option<bool>
     ensures { result ≡ order_given list.now f g }
 {
     if has(list, f) && has(list, g) {

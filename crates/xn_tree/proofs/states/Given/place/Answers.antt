@@ -14,14 +14,14 @@ returns-in_err-insert-clause-err c =
     let given = c.self.inside in
     let p = err_from_is_err_and c.from_residual.result c.from_residual.ensures.1 in
     rw (p.1)
-    (ap (situation_of given.graph given.pairs.items)
+    (ap (λ lists. situation_of given.graph given.pairs.items lists given.ones)
     (same_lists given.placed.items c.args.e c.index_mut.result.now c.insert.new.self c.index_mut.ensures.value c.in_err-insert.ensures.items)
     ∙ c.self.view_is)
 
 pub invariant_of-self-2 : goal.invariant_of-self-2
 invariant_of-self-2 c =
     let given = c.self.inside in
-    (placed_given given.graph given.pairs.items given.placed.items c.self.invariant c.args.e c.index_mut.result.now c.insert.new.self
+    (placed_given given.graph given.pairs.items given.placed.items given.ones c.self.invariant c.args.e c.index_mut.result.now c.insert.new.self
     c.index_mut.ensures.value c.args.f c.args.at (rw (← c.self.view_is) at c.requires.crosses) (rw (← c.self.view_is) at c.requires.out)
     c.in_ok-insert.ensures.items).0
 
@@ -29,6 +29,6 @@ pub returns-clause-ok : goal.returns-clause-ok
 returns-clause-ok c =
     let given = c.self.inside in
     rw (← c.self.view_is)
-    (placed_given given.graph given.pairs.items given.placed.items c.self.invariant c.args.e c.index_mut.result.now c.insert.new.self
+    (placed_given given.graph given.pairs.items given.placed.items given.ones c.self.invariant c.args.e c.index_mut.result.now c.insert.new.self
     c.index_mut.ensures.value c.args.f c.args.at (rw (← c.self.view_is) at c.requires.crosses) (rw (← c.self.view_is) at c.requires.out)
     c.in_ok-insert.ensures.items).1
