@@ -26,7 +26,7 @@ take-out [] (suc i) x apart = refl
 take-out (y ∷ ys) (suc i) x apart = or_from (eqb y x) (has (take i ys) x) (ne_eqb y x (apart 0 (omega arith) (omega arith)))
     (take-out ys i x (λ k low below. apart (suc k) (omega (arith, low)) (omega (arith, below))))
 
-two_apart : (xs : List ℕ) (i j : ℕ) → IsDistinct nat_eq xs → i < j → j < length xs → get_or xs i 0 ≢ get_or xs j 0
+pub two_apart : (xs : List ℕ) (i j : ℕ) → IsDistinct nat_eq xs → i < j → j < length xs → get_or xs i 0 ≢ get_or xs j 0
 two_apart xs i j distinct before low = eqb-false _ _ (apart_from_distinct nat_eq xs i j 0 distinct before low)
 
 pub earlier_out : (xs : List ℕ) (i : ℕ) → IsDistinct nat_eq xs → i < length xs → has (take i xs) (get_or xs i 0) ≡ false

@@ -10,7 +10,7 @@ use Rattle.std.proofs.lemmas.Map.Keys.{IsDistinct-from_apart, below_from_sorted,
 use Rattle.xn_model.specs.Lists.{has}
 use Rattle.xn_model.specs.Orders.{order_at}
 
-has-at : (xs : List ℕ) (i x : ℕ) → i < length xs → get_or xs i 0 ≡ x → has xs x ≡ true
+pub has-at : (xs : List ℕ) (i x : ℕ) → i < length xs → get_or xs i 0 ≡ x → has xs x ≡ true
 has-at [] i x low here = absurd (omega (arith, low))
 has-at (y ∷ ys) zero x low here = or_left (eqb y x) (has ys x) (eq-eqb y x here)
 has-at (y ∷ ys) (suc i) x low here = or_right (eqb y x) (has ys x) (has-at ys i x (omega (arith, low)) here)

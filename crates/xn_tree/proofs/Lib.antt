@@ -6,6 +6,7 @@ pub mod Kept
 pub mod Least
 pub mod Leading
 pub mod Neighbours
+pub mod Noting
 pub mod Ones
 pub mod PairSums
 pub mod Pairs

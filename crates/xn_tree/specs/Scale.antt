@@ -30,6 +30,10 @@ kept_at slots entries place =
     let entry = slice_index_or entries (slice_index_or slots place 0) (record { place = place; zero = 0; one = 0 }) in
     if entry.place == place then (entry.zero, entry.one) else (0, 0)
 
+-- the notes say of each element of the list where it stands
+abbrev pub AreNotesOf : List ℕ → List ℕ → Type 0
+AreNotesOf notes xs = (i : ℕ) → i < length xs → slice_index_or notes (slice_index_or xs i 0) 0 ≡ i
+
 -- a table, as its slots and its entries
 pub record Places : Type 0 where
   pub slots : List ℕ

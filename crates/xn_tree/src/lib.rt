@@ -7,6 +7,7 @@ mod leasts;
 mod leaves;
 mod ledgers;
 mod lists;
+mod notes;
 mod order_ledgers;
 mod order_sums;
 mod pair_sums;

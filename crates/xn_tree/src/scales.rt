@@ -18,6 +18,7 @@ use xn_kinds::Row;
 #[derive(Drop)]
 pub struct Scale {
     pairs: PairLedger,
+    notes: Vec<u32>,
 }
 
 impl Scale {
@@ -25,6 +26,7 @@ impl Scale {
     pub fn new(alloc: Global) -> Scale {
         Scale {
             pairs: PairLedger::new(alloc),
+            notes: Vec::new(alloc),
         }
     }
 
@@ -57,10 +59,22 @@ impl Scale {
         };
         let edges = graph.edges() as usize;
         self.pairs.fit(alloc, edges * edges)?;
-        let pairs = pairs_least(&mut self.pairs, &leaf)?;
-        let orders = orders_least(alloc, &leaf)?;
+        fit_notes(alloc, &mut self.notes, edges)?;
+        let notes = self.notes.as_mut_slice();
+        let pairs = pairs_least(&mut self.pairs, notes, &leaf)?;
+        let orders = orders_least(alloc, notes, &leaf)?;
         Ok(pairs + orders + multipliers(parts) as i128)
     }
+}
+
+// Makes room for a note of each edge, where there isn't just that. After want of memory the notes are as before.
+fn fit_notes(alloc: Global, notes: &mut Vec<u32>, edges: usize) -> Result<(), AllocError>
+    ensures { IfOk result (λ _. length notes.new.items ≡ edges) }
+{
+    if notes.len() != edges {
+        *notes = vec![in alloc; 0; edges]?;
+    }
+    Ok(())
 }
 
 // The sum of the multipliers.

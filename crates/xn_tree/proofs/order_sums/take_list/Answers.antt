@@ -1,13 +1,46 @@
-use Rattle.std.proofs.Common.{◌≡◌, ◌∙◌, ◌+◌, ◌-◌, ◌*◌, ◌<◌, ◌≤◌, ℕ, ap, arith, get_or, length, refl, take}
+use Rattle.std.proofs.Common.{◌≡◌, ◌∙◌, ◌+◌, ◌-◌, ◌*◌, ◌<◌, ◌≤◌, ℕ, ap, arith, get_or, length, refl, subst, sym, take}
+use Rattle.std.specs.Prelude.{All, nat_eq}
+use Rattle.std.specs.List.{IsDistinct}
 use Rattle.std.proofs.lemmas.List.{take_all}
+use Rattle.xn_model.specs.Graph.{Graph}
 use Rattle.xn_kinds.specs.Row.{Values, literal}
 use Rattle.xn_tree.specs.Leaf.{state_in, turns_along}
-use Rattle.xn_tree.specs.Scale.{OrdersStand}
+use Rattle.xn_tree.specs.Scale.{AreNotesOf, OrdersStand}
 use Rattle.xn_tree.proofs.Additions.{neighbours_apart}
 use Rattle.xn_tree.proofs.Leading.{off_more, off_none, off_same}
 use Rattle.xn_tree.proofs.Neighbours.{turns-short}
+use Rattle.xn_tree.proofs.Noting.{placed_below, placed_short}
 use Rattle.xn_tree.proofs.Turning.{list_more}
 use Rattle.xn_tree.proofs.order_sums.take_list.Goals as goal
+
+pub returns-then-len-2-clause-takes : goal.returns-then-len-2-clause-takes
+returns-then-len-2-clause-takes c =
+    let leaf = c.args.leaf.now in
+    off_none (OrdersStand leaf.graph.now (state_in leaf)) _ (λ v. c.args.m * turns_along v c.args.e c.args.list.now)
+    (λ v.
+    let all = ap (λ xs. turns_along v c.args.e xs) (take_all 1 c.args.list.now (omega arith)) in
+    let none = ap (λ x. c.args.m * x) (sym all ∙ turns-short v c.args.e 1 c.args.list.now (omega arith)) in
+    omega (arith, none))
+
+pub note-requires-clause-below : goal.note-requires-clause-below
+note-requires-clause-below c =
+    let given = c.args.leaf.now.given.now in
+    let list = c.placed.ensures.list in
+    λ k d low.
+    let below = placed_below given.graph (state_in c.args.leaf.now) c.placed.ensures.state c.args.e k d (omega (arith, low, ap (length {A = ℕ}) list)) in
+    omega (arith, c.requires.long, ap (λ (g : Graph). length g.ends) c.requires.leaf.graph, ap (λ xs. get_or xs k d) list, below)
+
+pub note-requires-clause-no_repeats : goal.note-requires-clause-no_repeats
+note-requires-clause-no_repeats c = subst (IsDistinct nat_eq) (sym c.placed.ensures.list) (c.placed.ensures.state.no_repeats c.args.e)
+
+pub note-requires-clause-short : goal.note-requires-clause-short
+note-requires-clause-short c =
+    let given = c.args.leaf.now.given.now in
+    let few : length given.graph.ends ≤ 1000 = omega (arith, c.requires.leaf.few_edges, ap (λ (g : Graph). length g.ends) c.requires.leaf.graph) in
+    omega (arith, ap (length {A = ℕ}) c.placed.ensures.list, placed_short given.graph (state_in c.args.leaf.now) c.placed.ensures.state c.args.e few)
+
+pub take_turn-requires-clause-noted : goal.take_turn-requires-clause-noted
+take_turn-requires-clause-noted c = subst (AreNotesOf c.note.new.notes) c.placed.ensures.list c.note.ensures.noted
 
 pub loop-i-init : goal.loop-i-init
 loop-i-init c =

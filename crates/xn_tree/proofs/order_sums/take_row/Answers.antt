@@ -16,6 +16,7 @@ pub loop-i-init : goal.loop-i-init
 loop-i-init c =
     let leaf = c.args.leaf.now in
     record {
+      long = refl;
       terms = omega arith;
       takes = off_none (OrdersStand leaf.graph.now (state_in leaf)) _
           (λ v. c.args.m * total (λ x. turns_along v x (orders_of c.args.row.now x)) (take 0 c.as_slice-edges.result.now)) (λ v. omega arith);
@@ -68,6 +69,7 @@ loop-i-preserved c =
     let list : c.at.result.now ≡ orders_of row e =
     c.at.ensures ∙ order_at-found row.edges row.orders i e c.requires.row.orders.edge_list.rise c.requires.row.lists_fit (omega (arith, low, long), same) in
     record {
+      long = c.take_list.ensures.long ∙ c.loop-i.invariant.long;
       terms = omega (arith, ap (length {A = ℕ}) list, short_list g row c.requires.row c.requires.leaf.few_edges e, c.loop-i.invariant.terms, c.in_ok-take_list.ensures.terms);
       takes = off_more (OrdersStand g (state_in leaf)) _ _ _ (λ v. m * total (λ x. turns_along v x (orders_of row x)) (take i edges))
           (λ v. m * turns_along v e c.at.result.now) (λ v. m * total (λ x. turns_along v x (orders_of row x)) (take (i + 1) edges))

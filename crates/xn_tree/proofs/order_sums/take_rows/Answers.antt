@@ -12,6 +12,7 @@ pub loop-number-init : goal.loop-number-init
 loop-number-init c =
     let leaf = c.args.leaf.now in
     record {
+      long = refl;
       terms = omega (arith, c.requires.none);
       takes = off_none (OrdersStand leaf.graph.now (state_in leaf)) _ (orders_part leaf []) (λ v. refl);
     }
@@ -27,6 +28,7 @@ loop-number-preserved c =
     let row = get_or rows p.0 c.index-leaf-number.result in
     let row_is : row_at rows p.0 ≡ row = get_or_default rows p.0 _ c.index-leaf-number.result (c.requires.leaf.are_rows i (0, 0) low) in
     record {
+      long = c.take_row.ensures.long ∙ c.loop-number.invariant.long;
       terms = omega (arith, c.loop-number.invariant.terms, c.in_ok-take_row.ensures.terms);
       takes =
           off_more (OrdersStand leaf.graph.now (state_in leaf)) _ _ _ (orders_part leaf (take i parts)) (λ v. p.1 * turns_value row v) (orders_part leaf (take (i + 1) parts))

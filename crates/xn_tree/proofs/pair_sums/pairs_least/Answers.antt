@@ -19,6 +19,6 @@ returns-clause-least c =
     let kept = c.start.new.self in
     let count = ap (λ k. leaf.d * k) (c.ones.ensures.ones ∙ ap (λ h. ones_given h s) c.requires.leaf.graph) in
     let sum : kept.sum ≡ pos (leaf.d * ones_given g s) = omega (arith, ints, c.start.ensures.sum, c.times.ensures.product, c.times.ensures.small, count) in
-    let stands = c.in_ok-take_rows.ensures (λ v. pos (leaf.d * crossings_in g v)) (pairs_start g s leaf.d kept c.start.ensures.at sum) in
+    let stands = c.in_ok-take_rows.ensures.takes (λ v. pos (leaf.d * crossings_in g v)) (pairs_start g s leaf.d kept c.start.ensures.at sum) in
     let fits : FitsSigned w128 c.sum.result = search rules in
     rw (to_z-of_z w128 c.sum.result fits) (subst (IsLeastOver (InBox s) (pairs_left leaf)) (sym c.sum.ensures.sum) stands.least)

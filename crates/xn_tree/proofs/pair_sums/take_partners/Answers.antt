@@ -6,6 +6,15 @@ use Rattle.xn_tree.proofs.Leading.{leads_all, leads_on}
 use Rattle.xn_tree.proofs.PairSums.{none_left, partners_more}
 use Rattle.xn_tree.proofs.pair_sums.take_partners.Goals as goal
 
+pub note-requires-clause-below : goal.note-requires-clause-below
+note-requires-clause-below c = λ k d low. omega (arith, c.requires.long, c.requires.below k d low)
+
+pub is_noted-requires-clause-within : goal.is_noted-requires-clause-within
+is_noted-requires-clause-within c =
+    let low : c.loop-f.f-index < length c.args.later.now = omega arith in
+    let later = c.requires.later c.loop-f.f-index 0 low in
+    omega (arith, c.requires.long, c.note.ensures.long, later.1)
+
 pub loop-f-preserved : goal.loop-f-preserved
 loop-f-preserved c = record {
   room = c.take_pair.ensures.room;
@@ -21,9 +30,9 @@ loop-f-preserved c = record {
       let f = get_or later i 0 in
       let low : i < length later = omega arith in
       leads_on (PairsStand g (state_in leaf) leaf.d) _ _ _ (λ v. m * partners_part g list v e later) (λ v. m * partners_part g list v e (drop i later))
-      (λ v. m * pair_part g (c.has.result) v e f) (λ v. m * partners_part g list v e (drop (i + 1) later))
+      (λ v. m * pair_part g (c.is_noted.result) v e f) (λ v. m * partners_part g list v e (drop (i + 1) later))
       c.loop-f.invariant.leads c.in_ok-take_pair.ensures.takes
-      (λ v. partners_more g v m list e later i low ∙ ap (λ b. m * pair_part g b v e f + m * partners_part g list v e (drop (i + 1) later)) (sym c.has.ensures));
+      (λ v. partners_more g v m list e later i low ∙ ap (λ b. m * pair_part g b v e f + m * partners_part g list v e (drop (i + 1) later)) (sym c.is_noted.ensures));
 }
 
 pub returns-clause-takes : goal.returns-clause-takes

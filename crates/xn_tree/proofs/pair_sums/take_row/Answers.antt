@@ -2,11 +2,42 @@ use Rattle.std.proofs.Common.{◌≡◌, ◌∙◌, ◌+◌, ◌*◌, ◌<◌, �
 use Rattle.xn_kinds.specs.Row.{Values, orders_of, pairs_value}
 use Rattle.xn_tree.specs.Leaf.{state_in}
 use Rattle.xn_tree.specs.Scale.{PairsStand, partners_part}
-use Rattle.xn_tree.proofs.Additions.{few_edges}
+use Rattle.std.specs.Prelude.{nat_eq}
+use Rattle.std.specs.List.{IsDistinct}
+use Rattle.xn_tree.proofs.Additions.{few_edges, short_list}
 use Rattle.xn_tree.proofs.Edges.{order_at-found}
 use Rattle.xn_tree.proofs.Leading.{leads_all, leads_on, off_same}
+use Rattle.xn_tree.proofs.Turning.{list_below}
 use Rattle.xn_tree.proofs.PairSums.{later_edges, none_left, row_all, row_more, row_part}
 use Rattle.xn_tree.proofs.pair_sums.take_row.Goals as goal
+
+pub take_partners-requires-clause-no_repeats : goal.take_partners-requires-clause-no_repeats
+take_partners-requires-clause-no_repeats c =
+    let row = c.args.row.now in
+    let i = c.loop-i.i in
+    let e = get_or row.edges i 0 in
+    let low : i < length row.edges = omega (arith, ap (length {A = ℕ}) c.as_slice-edges.ensures) in
+    let list : c.at.result.now ≡ orders_of row e = c.at.ensures ∙ order_at-found row.edges row.orders i e c.requires.row.orders.edge_list.rise c.requires.row.lists_fit (low, refl) in
+    subst (IsDistinct nat_eq) (sym list) (c.requires.row.orders.no_repeats e)
+
+pub take_partners-requires-clause-short : goal.take_partners-requires-clause-short
+take_partners-requires-clause-short c =
+    let row = c.args.row.now in
+    let i = c.loop-i.i in
+    let e = get_or row.edges i 0 in
+    let low : i < length row.edges = omega (arith, ap (length {A = ℕ}) c.as_slice-edges.ensures) in
+    let list : c.at.result.now ≡ orders_of row e = c.at.ensures ∙ order_at-found row.edges row.orders i e c.requires.row.orders.edge_list.rise c.requires.row.lists_fit (low, refl) in
+    omega (arith, ap (length {A = ℕ}) list, short_list c.args.leaf.now.graph.now row c.requires.row c.requires.leaf.few_edges e)
+
+pub take_partners-requires-clause-below : goal.take_partners-requires-clause-below
+take_partners-requires-clause-below c =
+    let row = c.args.row.now in
+    let g = c.args.leaf.now.graph.now in
+    let i = c.loop-i.i in
+    let e = get_or row.edges i 0 in
+    let low : i < length row.edges = omega (arith, ap (length {A = ℕ}) c.as_slice-edges.ensures) in
+    let list : c.at.result.now ≡ orders_of row e = c.at.ensures ∙ order_at-found row.edges row.orders i e c.requires.row.orders.edge_list.rise c.requires.row.lists_fit (low, refl) in
+    subst (All (λ f. f < length g.ends)) (sym list) (list_below g row c.requires.row e)
 
 pub take_partners-requires-clause-later : goal.take_partners-requires-clause-later
 take_partners-requires-clause-later c =
@@ -46,6 +77,7 @@ loop-i-preserved c =
     let behind = c.behind.result.now in
     record {
       room = c.take_partners.ensures.room;
+      long = c.take_partners.ensures.long ∙ c.loop-i.invariant.long;
       terms = omega (arith, few, long, ap (length {A = ℕ}) c.behind.ensures, length-drop (i + 1) edges, c.loop-i.invariant.terms, c.in_ok-take_partners.ensures.terms);
       leads =
           leads_on (PairsStand g (state_in leaf) leaf.d) _ _ _ (λ v. m * row_part g (orders_of row) v edges) (λ v. m * row_part g (orders_of row) v (drop i edges))

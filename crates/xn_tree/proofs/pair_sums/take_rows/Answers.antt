@@ -13,6 +13,7 @@ loop-number-init c =
     let leaf = c.args.leaf.now in
     record {
       room = c.requires.room;
+      long = refl;
       terms = omega (arith, c.requires.none);
       takes = off_none (PairsStand leaf.graph.now (state_in leaf) leaf.d) _ (pairs_part leaf []) (λ v. refl);
     }
@@ -30,6 +31,7 @@ loop-number-preserved c =
     let row_is : row_at rows p.0 ≡ row = get_or_default rows p.0 _ c.index-leaf-number.result (c.requires.leaf.are_rows i (0, 0) low) in
     record {
       room = c.take_row.ensures.room;
+      long = c.take_row.ensures.long ∙ c.loop-number.invariant.long;
       terms = omega (arith, c.loop-number.invariant.terms, c.in_ok-take_row.ensures.terms);
       takes =
           off_more (PairsStand g (state_in leaf) leaf.d) _ _ _ (pairs_part leaf (take i parts)) (λ v. p.1 * pairs_value g row v) (pairs_part leaf (take (i + 1) parts))
@@ -37,8 +39,8 @@ loop-number-preserved c =
           (λ v. parts_more (λ q. q.1 * pairs_value g (row_at rows q.0) v) parts i low ∙ ap (λ r. pairs_part leaf (take i parts) v + p.1 * pairs_value g r v) row_is);
     }
 
-pub returns : goal.returns
-returns c =
+pub returns-clause-takes : goal.returns-clause-takes
+returns-clause-takes c =
     let leaf = c.args.leaf.now in
     off_same (PairsStand leaf.graph.now (state_in leaf) leaf.d) _ _ (pairs_part leaf (take c.loop-number.number-index leaf.parts.now)) (pairs_part leaf leaf.parts.now)
     c.loop-number.invariant.takes (λ v. ap (λ ps. pairs_part leaf ps v) (take_all c.loop-number.number-index leaf.parts.now (omega arith)))
