@@ -1,8 +1,8 @@
 -- The notes of a list.
-use Rattle.std.proofs.Common.{◌≡◌, ◌≢◌, ℕ, zero, suc, ◌+◌, ◌<◌, ◌≤◌, inl, inr, Bool, true, false, ◌&&◌, cond, eqb, ltb, List, [], ◌∷◌, length, take, get_or, get_or-set_other, get_or-set_same, set, refl, sym, subst, ap, ◌∙◌, arith}
-use Rattle.std.specs.Prelude.{All, Option, None, Some, nat_eq}
+use Rattle.std.proofs.Common.{◌≡◌, ◌≢◌, ℕ, zero, suc, ◌+◌, ◌<◌, ◌≤◌, inl, inr, true, false, eqb, ltb, List, [], ◌∷◌, length, take, get_or, get_or-set_other, get_or-set_same, set, refl, sym, ap, ◌∙◌, arith}
+use Rattle.std.specs.Prelude.{All, Some, nat_eq}
 use Rattle.std.specs.List.{IsDistinct}
-use Rattle.std.proofs.lemmas.Bool.{both_ways, cases_Bool, cases_eq, cases_lt, eq-eqb, eqb-true, le-ltb, lt-ltb, ne_eqb}
+use Rattle.std.proofs.lemmas.Bool.{both_ways, cases_Bool, cases_lt, eq-eqb, eqb-true, ne_eqb}
 use Rattle.std.proofs.lemmas.List.{get_or-take, get_or_default, length-take}
 use Rattle.xn_model.specs.Graph.{Graph}
 use Rattle.xn_model.specs.Lists.{has, position_in}
@@ -65,12 +65,6 @@ module _ (notes xs : List ℕ) (are : AreNotesOf notes xs) where
   noted_past f i is past = elim (cases_Bool (has xs f)) [
     | inl h ↦ let place = position_at xs f h in let there = noted_at f h in absurd (omega (arith, is, there, place.0, past))
     | inr out ↦ out
-  ]
-
-  pub is_noted-is : (f i : ℕ) → i ≡ get_or notes f 0 → (ltb i (length xs) && eqb (get_or xs i 0) f) ≡ has xs f
-  is_noted-is f i is = elim (cases_lt i (length xs)) [
-    | inl low ↦ rw (lt-ltb i (length xs) low) (noted_there f i is low)
-    | inr past ↦ rw (le-ltb i (length xs) past) (sym (noted_past f i is past))
   ]
 
   -- two notes, where both stand in the list

@@ -1,6 +1,9 @@
-use Rattle.std.proofs.Common.{refl}
-use Rattle.xn_tree.proofs.Noting.{is_noted-is}
+use Rattle.std.proofs.Common.{arith, refl, sym}
+use Rattle.xn_tree.proofs.Noting.{noted_past, noted_there}
 use Rattle.xn_tree.proofs.notes.is_noted.Goals as goal
 
-pub returns : goal.returns
-returns c = is_noted-is c.args.notes.now c.args.list.now c.requires.noted c.args.f _ refl
+pub returns-then-i-list : goal.returns-then-i-list
+returns-then-i-list c = noted_there c.args.notes.now c.args.list.now c.requires.noted c.args.f _ refl (omega arith)
+
+pub returns-else-i-list : goal.returns-else-i-list
+returns-else-i-list c = sym (noted_past c.args.notes.now c.args.list.now c.requires.noted c.args.f _ refl (omega arith))

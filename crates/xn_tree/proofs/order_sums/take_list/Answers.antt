@@ -13,8 +13,8 @@ use Rattle.xn_tree.proofs.Noting.{placed_below, placed_short}
 use Rattle.xn_tree.proofs.Turning.{list_more}
 use Rattle.xn_tree.proofs.order_sums.take_list.Goals as goal
 
-pub returns-then-len-2-clause-takes : goal.returns-then-len-2-clause-takes
-returns-then-len-2-clause-takes c =
+pub returns-then-list-lt2-clause-takes : goal.returns-then-list-lt2-clause-takes
+returns-then-list-lt2-clause-takes c =
     let leaf = c.args.leaf.now in
     off_none (OrdersStand leaf.graph.now (state_in leaf)) _ (λ v. c.args.m * turns_along v c.args.e c.args.list.now)
     (λ v.

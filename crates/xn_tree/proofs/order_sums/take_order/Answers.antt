@@ -5,8 +5,8 @@ use Rattle.xn_tree.specs.Scale.{AreNotesOf}
 use Rattle.xn_tree.proofs.Turning.{order_taken_at}
 use Rattle.xn_tree.proofs.order_sums.take_order.Goals as goal
 
-pub noted_order-requires-clause-noted : goal.noted_order-requires-clause-noted
-noted_order-requires-clause-noted c = subst (AreNotesOf c.args.notes.now) (sym c.placed.ensures.list) c.requires.noted
+pub noted_order-given-requires-clause-noted : goal.noted_order-given-requires-clause-noted
+noted_order-given-requires-clause-noted c = subst (AreNotesOf c.args.notes.now) (sym c.placed.ensures.list) c.requires.noted
 
 pub returns-clause-takes : goal.returns-clause-takes
 returns-clause-takes c =
