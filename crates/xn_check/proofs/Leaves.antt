@@ -11,13 +11,11 @@ use Rattle.xn_kinds.specs.Row.{RowHolds}
 use Rattle.xn_kinds.specs.State.{State}
 use Rattle.xn_kinds.specs.declared.flaws.FlawKind.TheVariants as kinds
 use Rattle.xn_kinds.specs.declared.rows.Row.{Row}
-use Rattle.xn_kinds.specs.declared.trees.Node.{Node}
-use Rattle.xn_kinds.specs.declared.trees.Node.TheVariants.{Leaf, Pair, Place}
+use Rattle.xn_kinds.specs.declared.trees.Node.TheVariants.{Leaf}
 use Rattle.xn_proof.specs.declared.flaw.AnswerErr.TheVariants as errors
 use Rattle.xn_tree.specs.Leaf.{IsRowOf}
-use Rattle.xn_tree.specs.Walk.{FitsFirst}
 use Rattle.xn_check.specs.Judging.{RefusesLine}
-use Rattle.xn_check.specs.Meaning.{LeafKeeps, MayOpenFirst, StepFails, need_of}
+use Rattle.xn_check.specs.Meaning.{MayOpenFirst, StepFails, need_of}
 use Rattle.xn_check.specs.Parts.{IsInRange}
 
 -- what a test tells
@@ -90,21 +88,3 @@ module _ (g : Graph) (k number n : ℕ) (rows : List Row) (d : ℕ) (parts : Lis
       RefusesLine number (StepFails g k rows pending n (Leaf d parts)) (errors.Refused (record { line = number; kind = kinds.TreeShape n }))
   leaf_misshapen [] falls = (refl, refl)
   leaf_misshapen (t ∷ pending) falls = (inl (falls, refl), refl)
-
--- ---- a node that is opened
-
--- where it fits the first pending state, and keeps its rule if it is a leaf, it may open it
-pub opens_first : (g : Graph) (k : ℕ) (rows : List Row) (pending : List State) (node : Node) → FitsFirst g pending node → LeafKeeps g k rows pending node →
-    MayOpenFirst g k rows pending node
-opens_first g k rows [] node fits keeps = absurd fits
-opens_first g k rows (t ∷ rest) (Leaf d parts) fits keeps = keeps
-opens_first g k rows (t ∷ rest) (Pair e f) fits keeps = fits
-opens_first g k rows (t ∷ rest) (Place e f) fits keeps = fits
-
--- and else the tree has another shape
-pub misses_first : (g : Graph) (k : ℕ) (rows : List Row) (pending : List State) (n : ℕ) (node : Node) → ¬ (FitsFirst g pending node) →
-    StepFails g k rows pending n node (kinds.TreeShape n)
-misses_first g k rows [] n node none = refl
-misses_first g k rows (t ∷ rest) n (Leaf d parts) none = absurd (none tt)
-misses_first g k rows (t ∷ rest) n (Pair e f) none = (none, refl)
-misses_first g k rows (t ∷ rest) n (Place e f) none = (none, refl)

@@ -63,11 +63,6 @@ abbrev pub MayOpenFirst : Graph → ℕ → List Row → List State → Node →
 MayOpenFirst g k rows [] node = ⊥
 MayOpenFirst g k rows (t ∷ pending) node = MayOpen g k rows t node
 
--- the same, where it is a leaf
-abbrev pub LeafKeeps : Graph → ℕ → List Row → List State → Node → Type 0
-LeafKeeps g k rows pending (Leaf d parts) = MayOpenFirst g k rows pending (Leaf d parts)
-LeafKeeps g k rows pending node = Unit {0}
-
 -- the line means what it must
 abbrev pub Agrees : Graph → ℕ → Said → Item → Type 0
 Agrees g loops s (item.Path path) = IfSome (row_by_path s.rows path) (RowHolds g)

@@ -19,6 +19,7 @@ use std::marker::Model;
 use xn_graph::Graph;
 use xn_kinds::FlawKind;
 use xn_proof::{AnswerErr, Forms, Item};
+use xn_tree::Scale;
 
 /// Judges an answer line by line, for a graph and so many loops left aside, and keeps no line: what it keeps is the drawing, the
 /// rows, and one path of the tree.
@@ -28,6 +29,7 @@ pub struct Judge {
     front: FrontPart,
     rows: RowPart,
     tree: TreePart,
+    scale: Scale,
     loops: u64,
 }
 
@@ -53,6 +55,7 @@ impl Judge {
             front: FrontPart::new(alloc),
             rows: RowPart::new(alloc),
             tree: TreePart::new(alloc, graph)?,
+            scale: Scale::new(alloc),
             loops,
         })
     }
@@ -110,6 +113,7 @@ impl Judge {
             Item::Extension(list) => self.rows.extension(alloc, graph, number, list),
             Item::Step(node) => self.tree.step(
                 alloc,
+                &mut self.scale,
                 number,
                 self.front.lower(),
                 self.rows.whole(),

@@ -8,7 +8,7 @@ ghost use Rattle.xn_kinds.specs.declared.flaws.FlawKind.TheVariants.{TreeShape, 
 ghost use Rattle.xn_kinds.specs.declared.trees.Node.TheVariants.{Leaf};
 ghost use Rattle.xn_tree.specs.Walk.{pending_of};
 ghost use Rattle.xn_check.specs.Judging.{RefusesLine};
-ghost use Rattle.xn_check.specs.Meaning.{LeafKeeps, MayOpenFirst, StepFails, need_of};
+ghost use Rattle.xn_check.specs.Meaning.{MayOpenFirst, StepFails, need_of};
 ghost use Rattle.xn_check.specs.Parts.{IsInRange, tree_of};
 ghost use Rattle.xn_check.specs.TreeSaid.{no_tree, tree_said};
 
@@ -26,7 +26,6 @@ use xn_tree::{Scale, TreeWalk};
 #[derive(Drop)]
 pub struct TreePart {
     walk: TreeWalk,
-    scale: Scale,
     nodes: u64,
 }
 
@@ -46,7 +45,6 @@ impl TreePart {
     {
         Ok(TreePart {
             walk: TreeWalk::new(alloc, graph)?,
-            scale: Scale::new(alloc),
             nodes: 0,
         })
     }
@@ -59,9 +57,11 @@ impl TreePart {
     }
 
     /// The next node, at a line with this number: it has to keep its rule in a proof of `lower` by these rows, which hold.
+    /// A leaf is weighed by the scale.
     pub fn step(
         &mut self,
         alloc: Global,
+        scale: &mut Scale,
         number: u64,
         lower: u32,
         rows: &[Row],
@@ -74,7 +74,9 @@ impl TreePart {
         ensures judged { MatchResult result (λ _. MayOpenFirst self.old.walk.graph lower rows.now (pending_of self.old.walk) node.now)
             (RefusesLine number (StepFails self.old.walk.graph lower rows.now (pending_of self.old.walk) self.old.nodes node.now)) }
     {
-        self.test(alloc, number, lower, rows, node)?;
+        if let Node::Leaf { d, parts } = node {
+            self.test_leaf(alloc, scale, number, lower, rows, *d, parts.as_slice())?;
+        }
         if !self.walk.open(node)? {
             return Err(self.misshapen(number));
         }
@@ -94,49 +96,21 @@ impl TreePart {
         Ok(())
     }
 
-    // A node in the first pending state, where it is a leaf.
-    fn test(
-        &mut self,
-        alloc: Global,
-        number: u64,
-        lower: u32,
-        rows: &[Row],
-        node: &Node,
-    ) -> Result<(), AnswerErr>
-        requires hold { All (RowHolds self.old.walk.graph) rows.now }
-        requires range { IsInRange (length rows.now) node.now }
-        ensures same { self.new ≡ self.old }
-        ensures judged { MatchResult result (λ _. LeafKeeps self.old.walk.graph lower rows.now (pending_of self.old.walk) node.now)
-            (RefusesLine number (StepFails self.old.walk.graph lower rows.now (pending_of self.old.walk) self.old.nodes node.now)) }
-    {
-        match node {
-            Node::Leaf { d, parts } => self.test_leaf(
-                alloc,
-                number,
-                lower,
-                rows,
-                *d,
-                parts.as_slice(),
-            ),
-            _ => Ok(()),
-        }
-    }
-
     // A leaf in the first pending state.
     fn test_leaf(
-        &mut self,
+        &self,
         alloc: Global,
+        scale: &mut Scale,
         number: u64,
         lower: u32,
         rows: &[Row],
         d: u64,
         parts: &[(u32, u64)],
     ) -> Result<(), AnswerErr>
-        requires hold { All (RowHolds self.old.walk.graph) rows.now }
+        requires hold { All (RowHolds self.now.walk.graph) rows.now }
         requires range { IsInRange (length rows.now) (Leaf d parts.now) }
-        ensures same { self.new ≡ self.old }
-        ensures judged { MatchResult result (λ _. MayOpenFirst self.old.walk.graph lower rows.now (pending_of self.old.walk) (Leaf d parts.now))
-            (RefusesLine number (StepFails self.old.walk.graph lower rows.now (pending_of self.old.walk) self.old.nodes (Leaf d parts.now))) }
+        ensures { MatchResult result (λ _. MayOpenFirst self.now.walk.graph lower rows.now (pending_of self.now.walk) (Leaf d parts.now))
+            (RefusesLine number (StepFails self.now.walk.graph lower rows.now (pending_of self.now.walk) self.now.nodes (Leaf d parts.now))) }
     {
         if self.walk.is_finished() {
             return Err(self.misshapen(number));
@@ -144,7 +118,7 @@ impl TreePart {
         if !rises(parts) {
             return Err(self.misshapen(number));
         }
-        let bound = self.leaf_bound(alloc, rows, d, parts)?;
+        let bound = self.leaf_bound(alloc, scale, rows, d, parts)?;
         let need = need_of(lower, d);
         if bound > need {
             return Ok(());
@@ -154,19 +128,26 @@ impl TreePart {
 
     // The bound of a leaf in the first pending state.
     fn leaf_bound(
-        &mut self,
+        &self,
         alloc: Global,
+        scale: &mut Scale,
         rows: &[Row],
         d: u64,
         parts: &[(u32, u64)],
     ) -> Result<i128, AllocError>
-        requires hold { All (RowHolds self.old.walk.graph) rows.now }
+        requires hold { All (RowHolds self.now.walk.graph) rows.now }
         requires range { IsInRange (length rows.now) (Leaf d parts.now) }
         requires rise { IsStrictlyIncreasing (map (λ p. p.0) parts.now) }
-        ensures same { self.new ≡ self.old }
-        ensures bound { IfOk result (λ b. (t : State) (rest : List State) → pending_of self.old.walk ≡ t ∷ rest → IsBound self.old.walk.graph rows.now t d parts.now b) }
+        ensures { IfOk result (λ b. (t : State) (rest : List State) → pending_of self.now.walk ≡ t ∷ rest → IsBound self.now.walk.graph rows.now t d parts.now b) }
     {
-        self.scale.bound(alloc, self.walk.graph(), self.walk.given(), rows, parts, d)
+        scale.bound(
+            alloc,
+            self.walk.graph(),
+            self.walk.given(),
+            rows,
+            parts,
+            d,
+        )
     }
 
     // The line doesn't go on with the tree.
