@@ -11,7 +11,7 @@ use Rattle.xn_tree.specs.Walk.{after}
 use Rattle.xn_check.specs.FrontSaid.{front_said}
 use Rattle.xn_check.specs.Judging.{Rules}
 use Rattle.xn_check.specs.Meaning.{Agrees, DrawAgrees, MayOpenFirst}
-use Rattle.xn_check.specs.RowsSaid.{rows_said}
+use Rattle.xn_proof.specs.RowsSaid.{rows_said}
 use Rattle.xn_check.specs.Said.{Said, said}
 use Rattle.xn_check.specs.Verdict.{check_rules, draw_rules}
 use Rattle.xn_check.proofs.ItemKinds.{Each, IsFront, IsOfRows}

@@ -13,7 +13,7 @@ use Rattle.xn_proof.specs.declared.item.Item.TheVariants as item
 use Rattle.xn_check.specs.FrontSaid.{FrontSaid, no_front}
 use Rattle.xn_check.specs.Judging.{Rules}
 use Rattle.xn_check.specs.Laws.{AcceptedWhereSpelled, SpellsProof}
-use Rattle.xn_check.specs.RowsSaid.{RowsSaid, no_rows}
+use Rattle.xn_proof.specs.RowsSaid.{RowsSaid, no_rows}
 use Rattle.xn_check.specs.Said.{Said, nothing_said}
 use Rattle.xn_check.specs.Verdict.{Verdict, check_rules, draw_rules}
 use Rattle.xn_check.proofs.CheckItems.{all_front, all_of_rows, front_of_agree, front_of_said, tree_kept, tree_shows}

@@ -16,7 +16,7 @@ use Rattle.xn_check.specs.Judge.{HaveOneTask, IsReady, Kept, graph_kept, rules_o
 use Rattle.xn_check.specs.Judging.{Judged, Took}
 use Rattle.xn_check.specs.Meaning.{Agrees}
 use Rattle.xn_check.specs.Parts.{MayCome}
-use Rattle.xn_check.specs.RowsSaid.{RowsSaid, row_by_list, row_by_path, rows_said, with_row}
+use Rattle.xn_proof.specs.RowsSaid.{RowsSaid, row_by_list, row_by_path, rows_said, with_row}
 use Rattle.xn_check.specs.Said.{Said}
 use Rattle.xn_check.specs.Verdict.{check_rules}
 use Rattle.xn_check.specs.declared.verdicts.Accepted.{Accepted}

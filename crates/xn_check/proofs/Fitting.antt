@@ -24,9 +24,9 @@ use Rattle.xn_proof.proofs.Shapes.{keyed_form_takes}
 use Rattle.xn_proof.proofs.Steps.{bind_ok, ok_is}
 use Rattle.xn_proof.proofs.Values.{IsLeaf, leaf_is, leaf_numbers, nodes_is, one_is}
 use Rattle.xn_check.specs.Fitting.{AreWhole, FormsFitRows, IsBegun, RowsFit}
-use Rattle.xn_check.specs.Parts.{IsBranch, IsInRange, MayCome}
+use Rattle.xn_check.specs.Parts.{IsInRange, MayCome}
 use Rattle.xn_check.proofs.Taken.{taken}
-use Rattle.xn_check.specs.RowsSaid.{RowsSaid, evidence_of, paths_for, row_by_list, row_by_path, row_of, rows_said, with_row}
+use Rattle.xn_proof.specs.RowsSaid.{RowsSaid, evidence_of, paths_for, row_by_list, row_by_path, row_of, rows_said, with_row}
 
 -- ---- what a line says of its numbers
 

@@ -11,7 +11,7 @@ use Rattle.xn_proof.specs.declared.item.Item.{Item}
 use Rattle.xn_proof.specs.declared.item.Item.TheVariants as item
 use Rattle.xn_check.specs.Judging.{Judged, RefusesLine}
 use Rattle.xn_check.specs.Meaning.{Breaks, DrawBreaks, RowFails}
-use Rattle.xn_check.specs.RowsSaid.{RowsSaid, row_by_list, rows_said}
+use Rattle.xn_proof.specs.RowsSaid.{RowsSaid, row_by_list, rows_said}
 use Rattle.xn_check.specs.Said.{Said}
 use Rattle.xn_check.specs.Verdict.{check_rules}
 

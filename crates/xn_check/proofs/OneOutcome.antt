@@ -24,7 +24,7 @@ use Rattle.xn_check.specs.FrontSaid.{FrontSaid, FrontSeen, graph_said}
 use Rattle.xn_check.specs.Judging.{AtEnd, Judges, OnLine, Rules}
 use Rattle.xn_check.specs.Laws.{OneDrawVerdict, OneFrontVerdict, OneVerdict}
 use Rattle.xn_check.specs.Meaning.{Agrees, DrawnFails, Breaks, DrawAgrees, DrawBreaks, FrontAgrees, FrontBreaks, MayOpenFirst, NodeFails, PathFails, RowFails, StepFails, need_of}
-use Rattle.xn_check.specs.RowsSaid.{row_by_list, row_by_path}
+use Rattle.xn_proof.specs.RowsSaid.{row_by_list, row_by_path}
 use Rattle.xn_check.specs.Said.{Said}
 use Rattle.xn_check.specs.Verdict.{check_rules, draw_rules, front_rules}
 

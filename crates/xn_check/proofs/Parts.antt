@@ -7,7 +7,7 @@ use Rattle.xn_kinds.specs.declared.rows.Row.{Row}
 use Rattle.xn_proof.specs.declared.flaw.AnswerErr.{AnswerErr}
 use Rattle.xn_check.specs.Judging.{RefusesLine}
 use Rattle.xn_check.specs.Meaning.{PathFails, RowFails}
-use Rattle.xn_check.specs.RowsSaid.{RowsSaid, evidence_of, paths_for, row_by_path, row_of}
+use Rattle.xn_proof.specs.RowsSaid.{RowsSaid, evidence_of, paths_for, row_by_path, row_of}
 
 -- what is said of a row is said of the same row
 pub same_refusal : (number : ℕ) (e : AnswerErr) (g : Graph) (i j : ℕ) (x y : Row) → i ≡ j → x ≡ y → RefusesLine number (RowFails g i x) e → RefusesLine number (RowFails g j y) e

@@ -16,7 +16,7 @@ use Rattle.xn_proof.specs.declared.item.Item.{Item}
 use Rattle.xn_proof.specs.declared.item.Item.TheVariants as item
 use Rattle.xn_proof.proofs.Steps.{all_cons, all_first, all_none, all_rest}
 use Rattle.xn_check.specs.Judging.{Rules}
-use Rattle.xn_check.specs.RowsSaid.{RowsSaid, evidence_of, no_rows, paths_for, row_by_list, row_by_path, rows_said, with_row}
+use Rattle.xn_proof.specs.RowsSaid.{RowsSaid, evidence_of, no_rows, paths_for, row_by_list, row_by_path, rows_said, with_row}
 use Rattle.xn_check.proofs.Items.{AllAgree, agree_first, agree_join, agree_rest, agree_tail, all_said, said_join}
 
 -- so many rows are whole, and of the next one the edges and lists are said

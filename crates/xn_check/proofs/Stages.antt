@@ -21,7 +21,7 @@ use Rattle.xn_proof.specs.declared.places.Place.{Place}
 use Rattle.xn_proof.specs.declared.places.Place.TheVariants as place
 use Rattle.xn_tree.specs.Walk.{after}
 use Rattle.xn_check.specs.Meaning.{Agrees, MayOpenFirst}
-use Rattle.xn_check.specs.RowsSaid.{RowsSaid, row_by_list, row_by_path, with_row}
+use Rattle.xn_proof.specs.RowsSaid.{RowsSaid, row_by_list, row_by_path, with_row}
 use Rattle.xn_check.specs.Said.{Said, said}
 use Rattle.xn_check.proofs.Taken.{given}
 

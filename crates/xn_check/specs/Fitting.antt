@@ -5,8 +5,8 @@ use Rattle.xn_proof.specs.declared.item.Item.{Item}
 use Rattle.xn_proof.specs.declared.places.Block.{Block}
 use Rattle.xn_proof.specs.declared.places.Place.{Place}
 use Rattle.xn_proof.specs.declared.places.Place.TheVariants as place
-use Rattle.xn_check.specs.Parts.{IsBranch, MayCome}
-use Rattle.xn_check.specs.RowsSaid.{RowsSaid, no_rows, paths_for, rows_said}
+use Rattle.xn_check.specs.Parts.{MayCome}
+use Rattle.xn_proof.specs.RowsSaid.{RowsSaid, no_rows, paths_for, rows_said}
 
 -- one row is begun, and with those that follow it there will be as many as said
 abbrev pub IsBegun : Block → RowsSaid → Type 0

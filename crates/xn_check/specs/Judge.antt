@@ -8,7 +8,7 @@ use Rattle.xn_check.specs.FrontFits.{FrontStands}
 use Rattle.xn_check.specs.FrontSaid.{FrontSaid}
 use Rattle.xn_check.specs.Judging.{Rules}
 use Rattle.xn_check.specs.Parts.{TreeKept, tree_of}
-use Rattle.xn_check.specs.RowsSaid.{RowsSaid}
+use Rattle.xn_proof.specs.RowsSaid.{RowsSaid}
 use Rattle.xn_check.specs.Said.{Said}
 use Rattle.xn_check.specs.Verdict.{check_rules}
 

@@ -7,7 +7,6 @@ pub mod Judging
 pub mod Laws
 pub mod Meaning
 pub mod Parts
-pub mod RowsSaid
 pub mod Said
 pub mod TreeSaid
 pub mod Verdict

@@ -22,7 +22,7 @@ use Rattle.xn_proof.specs.declared.item.Item.{Item}
 use Rattle.xn_proof.specs.declared.item.Item.TheVariants as item
 use Rattle.xn_rows.specs.Holding.{IsRowFlaw}
 use Rattle.xn_check.specs.FrontSaid.{FrontSaid, graph_said}
-use Rattle.xn_check.specs.RowsSaid.{row_by_list, row_by_path}
+use Rattle.xn_proof.specs.RowsSaid.{row_by_list, row_by_path}
 use Rattle.xn_check.specs.Said.{Said}
 
 -- ---- what has to be: lines up to `drawn`

@@ -1,19 +1,15 @@
 -- What a judge keeps of the rows and of the tree, and what the form of a line says beforehand.
-use Rattle.std.specs.Prelude.{◌≡◌, ℕ, ◌<◌, ◌≤◌, ◌⊎◌, ◌^◌, List, length, All}
+use Rattle.std.specs.Prelude.{◌≡◌, ℕ, ◌<◌, ◌≤◌, ◌^◌, List, length, All}
 use Rattle.xn_kinds.specs.declared.rows.Row.{Row}
 use Rattle.xn_kinds.specs.declared.trees.Node.{Node}
 use Rattle.xn_kinds.specs.declared.trees.Node.TheVariants.{Leaf}
 use Rattle.xn_proof.specs.declared.item.Item.{Item}
 use Rattle.xn_proof.specs.declared.item.Item.TheVariants as item
 use Rattle.xn_tree.specs.Walk.{Position, pending_of}
-use Rattle.xn_check.specs.RowsSaid.{RowsSaid}
+use Rattle.xn_proof.specs.RowsSaid.{IsBranch, RowsSaid}
 use Rattle.xn_check.specs.TreeSaid.{TreeSaid}
 
 -- ---- what the form of a line says beforehand
-
--- there are five or six branch nodes
-abbrev pub IsBranch : List ℕ → Type 0
-IsBranch branch = (length branch ≡ 5) ⊎ (length branch ≡ 6)
 
 -- so many rows may be followed by one more
 abbrev pub HasRoom : ℕ → Type 0
@@ -33,10 +29,6 @@ MayCome s (item.Step node) = IsInRange (length s.whole) node
 MayCome s line = Unit {0}
 
 -- ---- rows
-
--- what a part that keeps these says
-abbrev pub rows_kept : List Row → List ℕ → List (List ℕ) → List ℕ → List (List ℕ) → RowsSaid
-rows_kept whole listed orders branch paths = record { whole = whole; listed = listed; orders = orders; branch = branch; paths = paths }
 
 -- the row that is begun has a list for each of its edges
 abbrev pub HasRowLists : RowsSaid → Type 0

@@ -1,7 +1,7 @@
 -- What the lines of an answer said so far, as far as later lines are judged by it.
 use Rattle.xn_proof.specs.declared.item.Item.{Item}
 use Rattle.xn_check.specs.FrontSaid.{FrontSaid, front_said, no_front}
-use Rattle.xn_check.specs.RowsSaid.{RowsSaid, no_rows, rows_said}
+use Rattle.xn_proof.specs.RowsSaid.{RowsSaid, no_rows, rows_said}
 use Rattle.xn_check.specs.TreeSaid.{TreeSaid, no_tree, tree_said}
 
 pub record Said : Type 0 where

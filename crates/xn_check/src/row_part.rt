@@ -4,9 +4,9 @@ ghost use Rattle.xn_list.specs.Lists.{lists_of};
 ghost use Rattle.xn_kinds.specs.Row.{RowHolds};
 ghost use Rattle.xn_check.specs.Judging.{RefusesLine};
 ghost use Rattle.xn_check.specs.Meaning.{PathFails, RowFails};
-ghost use Rattle.xn_check.specs.Parts.{HasRoom, IsBranch};
+ghost use Rattle.xn_check.specs.Parts.{HasRoom};
 ghost use Rattle.xn_rows.specs.Holding.{HasPaths, HasSizes};
-ghost use Rattle.xn_check.specs.RowsSaid.{evidence_of, no_rows, paths_for, row_by_list, row_by_path, row_of, rows_said, with_row};
+ghost use Rattle.xn_proof.specs.RowsSaid.{IsBranch, evidence_of, no_rows, paths_for, row_by_list, row_by_path, row_of, rows_said, with_row};
 
 use crate::refusals::refused;
 use std::alloc::{AllocError, Global};
@@ -32,8 +32,8 @@ pub struct RowPart {
 
 impl Model for RowPart {
     ghost use Rattle.xn_list.specs.Lists.{lists_of};
-    ghost use Rattle.xn_check.specs.Parts.{HasRowLists, rows_kept};
-    ghost use Rattle.xn_check.specs.RowsSaid.{RowsSaid};
+    ghost use Rattle.xn_check.specs.Parts.{HasRowLists};
+    ghost use Rattle.xn_proof.specs.RowsSaid.{RowsSaid, rows_kept};
 
     ghost Value = { RowsSaid };
 

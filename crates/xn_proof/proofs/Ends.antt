@@ -11,8 +11,7 @@ use Rattle.xn_proof.specs.declared.item.Item.TheVariants as item
 use Rattle.xn_proof.specs.declared.places.Block.{Block}
 use Rattle.xn_proof.specs.declared.places.Place.{Place}
 use Rattle.xn_proof.specs.declared.places.Place.TheVariants as place
-use Rattle.xn_proof.specs.Forms.{Line, Reached, alongs_from, edges_from, ends_with_end, is_end, is_end_item, lines_at, next_at, node_item, overs_from, paths_from, rows_from, rule_at, start_item, start_paths, turns_from, words_at}
-use Rattle.xn_proof.specs.Proofs.{node_of, start_of}
+use Rattle.xn_proof.specs.Forms.{node_of, start_of, Line, Reached, alongs_from, edges_from, ends_with_end, is_end, is_end_item, lines_at, next_at, node_item, overs_from, paths_from, rows_from, rule_at, start_item, start_paths, turns_from, words_at}
 use Rattle.xn_proof.specs.Ranges.{edge_form, effort_form, just_form, list_form, no_form, one_form, over_form, two_form}
 use Rattle.xn_proof.specs.Reading.{◌>>=◌, keyed_form, syntax, trailing}
 use Rattle.xn_proof.proofs.Steps.{bind_ok, ok, ok_is}

@@ -7,7 +7,9 @@ use Rattle.std.proofs.lemmas.List.{take-append-drop, take_at, drop_at}
 use Rattle.std.proofs.lemmas.List.Sums.{passes_at_first, position_or_len_is}
 use Rattle.std.proofs.lemmas.Slice.Eq.{bytes_eq-Decides}
 use Rattle.std.specs.Str.{bytes_eq}
-use Rattle.std.specs.List.{All, join_with_byte, list_all, position_or_len}
+use Rattle.std.specs.List.{All, after_first, before_first, join_with_byte, list_all, position_or_len}
+use Rattle.std.specs.Prelude.{Result, Err, if◌then◌else◌, nat_lt}
+use Rattle.xn_kinds.specs.declared.flaws.Flaw.{Flaw}
 use Rattle.xn_text.specs.Pieces.{Lacks, is_line_end, words_of}
 use Rattle.xn_text.specs.Number.{word_number}
 use Rattle.xn_text.specs.declared.numbers.WordNumber.{WordNumber}
@@ -15,11 +17,22 @@ use Rattle.xn_text.specs.declared.numbers.WordNumber.TheVariants.{Not, Large, Is
 use Rattle.xn_text.proofs.Cuts.{fails_test, joined_are_found, words_are_the_line}
 use Rattle.xn_text.proofs.Digits.{is_spelled, spelled_is}
 use Rattle.xn_text.proofs.Spellings.{spelling_lacks}
-use Rattle.xn_proof.specs.Reading.{◌>>=◌, Left, each_at, keyed, line_at, numbers_at, syntax, value_at, value_of}
+use Rattle.xn_proof.specs.Reading.{◌>>=◌, each_at, keyed, syntax, value_at, value_of}
 use Rattle.xn_proof.specs.Spelling.{line}
 use Rattle.xn_proof.proofs.Steps.{bind_ok, guard, ok, ok_is, all_cons, all_first, all_none, all_rest}
 
 -- ---- lines
+
+-- what is left of a text: the number of its first line, and its bytes
+abbrev pub Left : Type 0
+Left = ℕ × List ℕ
+
+-- the number of the next line and its bytes, and what is left after it: it has to be ended
+abbrev pub line_at : Left → Result ((ℕ × List ℕ) × Left) Flaw
+line_at s =
+    if nat_lt (position_or_len is_line_end s.1) (length s.1)
+    then Ok ((s.0, before_first is_line_end s.1), (s.0 + 1, after_first is_line_end s.1))
+    else Err (syntax s.0)
 
 pub line_takes : (s : Left) (l : ℕ × List ℕ) (after : Left) → line_at s ≡ Ok (l, after) → s.1 ≡ l.1 ++ 10 ∷ after.1
 line_takes s l after e =
@@ -173,20 +186,3 @@ line_is_taken key ns i rest is_key small =
       taken = ap (λ (t : List ℕ). line_at (i, t)) (append_assoc bytes (10 ∷ []) rest) ∙ line_again i bytes rest no_end;
       words = joined_are_found words (omega arith) no_space;
     }
-
-pub numbers_takes : (key : List ℕ) (s : Left) (i : ℕ) (ns : List ℕ) (after : Left) → numbers_at key s ≡ Ok ((i, map Some ns), after) → (s.1 ≡ line key ns ++ after.1) × AreSmall ns
-unfolding numbers_at
-numbers_takes key s i ns after e =
-    let l = bind_ok (line_at s) (λ l. keyed key l.0.0 (words_of l.0.1) >>= λ vs. Ok ((l.0.0, vs), l.1)) ((i, map Some ns), after) e in
-    let k = bind_ok (keyed key l.0.0.0 (words_of l.0.0.1)) (λ vs. Ok ((l.0.0.0, vs), l.0.1)) ((i, map Some ns), after) l.2 in
-    let same = ok_is ((l.0.0.0, k.0), l.0.1) ((i, map Some ns), after) k.2 in
-    let values : k.0 ≡ map Some ns = ap (λ r. r.0.1) same in
-    let left : l.0.1.1 ≡ after.1 = ap (λ r. r.1.1) same in
-    let words = keyed_takes key l.0.0.0 (words_of l.0.0.1) ns (k.1 ∙ ap (λ vs. Ok vs) values) in
-    (line_takes s l.0.0 l.0.1 l.1 ∙ ap (λ (t : List ℕ). l.0.0.1 ++ 10 ∷ t) left ∙ line_spelled key l.0.0.1 ns after.1 words.0, words.1)
-
-pub numbers_again : (key : List ℕ) (i : ℕ) (ns rest : List ℕ) → IsKey key → AreSmall ns → numbers_at key (i, line key ns ++ rest) ≡ Ok ((i, map Some ns), (i + 1, rest))
-unfolding numbers_at
-numbers_again key i ns rest is_key small =
-    let line = line_is_taken key ns i rest is_key small in
-    rw (line.taken, line.words, keyed_again key i ns small) refl

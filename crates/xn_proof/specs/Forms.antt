@@ -8,11 +8,11 @@ use Rattle.xn_kinds.specs.declared.rows.Evidence.{Evidence}
 use Rattle.xn_kinds.specs.declared.rows.Evidence.TheVariants.{Five, ThreeThree, Extension}
 use Rattle.xn_kinds.specs.declared.rows.Row.{Row}
 use Rattle.xn_kinds.specs.declared.trees.Node.{Node}
+use Rattle.xn_kinds.specs.declared.trees.Node.TheVariants.{Pair, Place as Placed, Leaf}
 use Rattle.xn_model.specs.Graph.{Graph}
 use Rattle.xn_text.specs.Pieces.{lines_of, words_of}
-use Rattle.xn_proof.specs.Proofs.{answer_of, node_of, start_of}
-use Rattle.xn_proof.specs.Ranges.{edge_form, effort_form, just_form, list_form, no_form, one_form, over_form, two_form}
-use Rattle.xn_proof.specs.Reading.{◌>>=◌, Fails, keyed_form, syntax, trailing}
+use Rattle.xn_proof.specs.Ranges.{edge_form, edges_form, effort_form, just_form, leaf_form, list_form, no_form, nodes_form, one_form, over_form, two_form}
+use Rattle.xn_proof.specs.Reading.{◌>>=◌, Fails, has_key, keyed_form, syntax, trailing}
 use Rattle.xn_proof.specs.Spelling.{overs_of, turns_of}
 use Rattle.xn_proof.specs.declared.evidence.Start.{Start}
 use Rattle.xn_proof.specs.declared.evidence.Start.TheVariants as start
@@ -53,6 +53,44 @@ overs_from b count = next_place (place.Evidence b) (λ more. place.Over b more) 
 -- so many paths of an evidence
 abbrev pub paths_from : Block → ℕ → Place
 paths_from b count = next_place (rows_from b.edges b.rows b.more) (λ more. place.Path b more) count
+
+-- ---- the first line of an evidence, and a line of the tree
+
+abbrev pub five_of : ℕ → List (List ℕ) → Result Start Flaw
+five_of i words = keyed_form (codes "five") (nodes_form 5) i words >>= λ branch. Ok (start.Five branch)
+
+abbrev pub three_of : ℕ → List (List ℕ) → Result Start Flaw
+three_of i words = keyed_form (codes "three") (nodes_form 6) i words >>= λ branch. Ok (start.ThreeThree branch)
+
+abbrev pub extension_of : ℕ → List (List ℕ) → Result Start Flaw
+extension_of i words = keyed_form (codes "extension") (list_form 1000000) i words >>= λ list. Ok (start.Extension list)
+
+-- how an evidence begins: five or six branch nodes, or a list of segments
+unfoldable pub start_of : ℕ → List (List ℕ) → Result Start Flaw
+start_of i words =
+    if has_key (codes "five") words then five_of i words
+    else if has_key (codes "three") words then three_of i words
+    else extension_of i words
+
+abbrev pub pair_of : ℕ → ℕ → List (List ℕ) → Result (Option Node) Flaw
+pair_of m i words = keyed_form (codes "pair") (edges_form m) i words >>= λ p. Ok (Some (Pair p.0 p.1))
+
+abbrev pub place_of : ℕ → ℕ → List (List ℕ) → Result (Option Node) Flaw
+place_of m i words = keyed_form (codes "place") (edges_form m) i words >>= λ p. Ok (Some (Placed p.0 p.1))
+
+abbrev pub leaf_of : ℕ → ℕ → List (List ℕ) → Result (Option Node) Flaw
+leaf_of rows i words = keyed_form (codes "leaf") (leaf_form rows) i words >>= λ l. Ok (Some (Leaf l.0 l.1))
+
+abbrev pub end_of : ℕ → List (List ℕ) → Result (Option Node) Flaw
+end_of i words = keyed_form (codes "end") no_form i words >>= λ u. Ok None
+
+-- a node of a tree over m edges and so many rows, or none at the end
+unfoldable pub node_of : ℕ → ℕ → ℕ → List (List ℕ) → Result (Option Node) Flaw
+node_of m rows i words =
+    if has_key (codes "pair") words then pair_of m i words
+    else if has_key (codes "place") words then place_of m i words
+    else if has_key (codes "leaf") words then leaf_of rows i words
+    else end_of i words
 
 -- ---- the rule of a line
 
@@ -210,15 +248,3 @@ text_lines text = map (λ l. (l.1, l.2)) (lines_of (1, text))
 -- what lines say where they come to the end, and the flaw of a missing line else
 abbrev pub up_to_end : Result (List Item × Reached) Flaw → Result (List Item) Flaw
 up_to_end read = read >>= λ x. if is_end x.1.1 then Ok x.0 else Err (syntax x.1.0)
-
--- the lines of a text, taken one by one, say what the text says as an answer, or have the same first flaw
-abbrev pub LinesSayTheAnswer : Type 0
-LinesSayTheAnswer =
-    (text : List ℕ) → length (text_lines text) < 2 ^ 64 - 1 →
-    up_to_end (lines_at start_state (text_lines text)) ≡ (answer_of text >>= λ a. Ok (items_of a))
-
--- they come to the end with just the items of the text's answer, however many they are
-abbrev pub LinesSayItsItems : Type 0
-LinesSayItsItems =
-    (text : List ℕ) (items : List Item) →
-    (up_to_end (lines_at start_state (text_lines text)) ≡ Ok items) ↔ ((answer_of text >>= λ a. Ok (items_of a)) ≡ Ok items)

@@ -2,9 +2,8 @@
 use Rattle.std.specs.Prelude.{◌≡◌, ℕ, List, [], ◌++◌, Ok}
 use Rattle.xn_kinds.specs.declared.answers.Answer.{Answer}
 use Rattle.xn_proof.specs.declared.front.Front.{Front}
-use Rattle.xn_proof.specs.Fronts.{front_at}
-use Rattle.xn_proof.specs.Proofs.{answer_of}
 use Rattle.xn_proof.specs.Spelling.{front_text, text_of}
+use Rattle.xn_proof.specs.Told.{answer_of, front_of}
 use Rattle.xn_proof.specs.WellFormed.{IsFront, WellFormed}
 
 -- a text that is read as an answer is its spelling
@@ -27,5 +26,4 @@ OneAnswer = (a b : Answer) → WellFormed a → WellFormed b → text_of a ≡ t
 -- a text whose lines up to `drawn` are read begins with their spelling
 abbrev pub FrontIsSpelled : Type 0
 FrontIsSpelled =
-    (text : List ℕ) (f : Front) (number : ℕ) (rest : List ℕ) → front_at (1, text) ≡ Ok (f, (number, rest)) →
-    IsFront f × (text ≡ front_text f ++ rest)
+    (text : List ℕ) (f : Front) → front_of text ≡ Ok f → IsFront f × ((rest : List ℕ) × (text ≡ front_text f ++ rest))

@@ -1,9 +1,9 @@
 pub mod Forms
-pub mod Fronts
 pub mod Laws
-pub mod Proofs
 pub mod Ranges
 pub mod Reading
 pub mod Refusal
+pub mod RowsSaid
 pub mod Spelling
+pub mod Told
 pub mod WellFormed

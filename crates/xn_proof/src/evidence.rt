@@ -1,17 +1,14 @@
 // The evidence of a row: branch nodes and paths, or a list of segments.
 ghost use Rattle.std.specs.Prelude.{◌≡◌, IfOk, length};
-ghost use Rattle.xn_list.specs.Lists.{lists_of};
 ghost use Rattle.xn_text.specs.Pieces.{words_of};
-ghost use Rattle.xn_proof.specs.Proofs.{evidence_at, path_at, paths_of, start_of};
+ghost use Rattle.xn_proof.specs.Forms.{start_of};
 ghost use Rattle.xn_proof.specs.Ranges.{nodes_form};
-ghost use Rattle.xn_proof.specs.Reading.{Gives, Reads, many_at};
+ghost use Rattle.xn_proof.specs.Reading.{Gives};
 
 use crate::flaw::{AnswerErr, syntax};
 use crate::numbers::{Numbers, has_key, keyed_numbers};
 use crate::ranges::{number_list, small_numbers};
-use crate::reader::Reader;
 use std::alloc::Global;
-use xn_kinds::{Evidence, Paths};
 use xn_list::Sequence;
 
 /// How an evidence begins.
@@ -42,14 +39,16 @@ fn branch_nodes(
     small_numbers(alloc, number, values)
 }
 
-fn five(nodes: &[u32]) -> [u32; 5]
+/// Five nodes as an array.
+pub fn five(nodes: &[u32]) -> [u32; 5]
     requires { length nodes.now ≡ 5 }
     ensures { result ≡ nodes.now }
 {
     [nodes[0], nodes[1], nodes[2], nodes[3], nodes[4]]
 }
 
-fn six(nodes: &[u32]) -> [u32; 6]
+/// Six nodes as an array.
+pub fn six(nodes: &[u32]) -> [u32; 6]
     requires { length nodes.now ≡ 6 }
     ensures { result ≡ nodes.now }
 {
@@ -57,7 +56,7 @@ fn six(nodes: &[u32]) -> [u32; 6]
 }
 
 /// How an evidence begins, by its first line.
-#[tactic(auto, unfolding(crate::specs::Proofs::start_of))]
+#[tactic(auto, unfolding(crate::specs::Forms::start_of))]
 pub fn start_line(alloc: Global, number: u64, line: &[u8]) -> Result<Start, AnswerErr>
     ensures { Gives (λ x. x) result (start_of number (words_of line.now)) }
 {
@@ -74,51 +73,4 @@ pub fn start_line(alloc: Global, number: u64, line: &[u8]) -> Result<Start, Answ
     let values = keyed_numbers(b"extension".as_slice(), number, line)?;
     let list = number_list(alloc, 1_000_000, number, &values)?;
     Ok(Start::Extension(Sequence::new(list)))
-}
-
-// The segments of a path.
-#[tactic(auto, unfolding(crate::specs::Reading::form_at))]
-fn path_line(alloc: Global, path: u32, reader: &mut Reader) -> Result<Vec<u32>, AnswerErr>
-    ensures { Reads (λ x. x.items) result reader.new (path_at path reader.old) }
-{
-    let (number, values) = reader.numbers(b"path".as_slice())?;
-    number_list(alloc, 1_000_000, number, &values)
-}
-
-// So many paths.
-fn path_lines(alloc: Global, count: u32, reader: &mut Reader) -> Result<Vec<Vec<u32>>, AnswerErr>
-    ensures { Reads (λ x. lists_of x.items) result reader.new (many_at path_at 0 count reader.old) }
-{
-    let mut paths = Vec::new(alloc);
-    for path in 0..count {
-        paths.push(path_line(alloc, path, reader)?)?;
-    }
-    Ok(paths)
-}
-
-// The rest of an evidence that begins so.
-fn rest_of(alloc: Global, start: Start, reader: &mut Reader) -> Result<Evidence, AnswerErr>
-    ensures { Reads (λ x. x) result reader.new (paths_of start reader.old) }
-{
-    match start {
-        Start::Five(branch) => {
-            let paths = Paths::new(path_lines(alloc, 10, reader)?);
-            Ok(Evidence::Five { branch, paths })
-        }
-        Start::ThreeThree(branch) => {
-            let paths = Paths::new(path_lines(alloc, 9, reader)?);
-            Ok(Evidence::ThreeThree { branch, paths })
-        }
-        Start::Extension(list) => Ok(Evidence::Extension { list }),
-    }
-}
-
-/// The evidence of a row.
-#[tactic(auto, unfolding(crate::specs::Proofs::evidence_at))]
-pub fn evidence(alloc: Global, reader: &mut Reader) -> Result<Evidence, AnswerErr>
-    ensures { Reads (λ x. x) result reader.new (evidence_at reader.old) }
-{
-    let (number, line) = reader.line()?;
-    let start = start_line(alloc, number, line)?;
-    rest_of(alloc, start, reader)
 }

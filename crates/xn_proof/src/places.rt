@@ -8,8 +8,9 @@ use crate::evidence::{Start, start_line};
 use crate::flaw::{AnswerErr, syntax, trailing};
 use crate::item::Item;
 use crate::numbers::keyed_numbers;
-use crate::ranges::{edge_ends, effort, just_number, number_list, one_number, two_numbers};
-use crate::rows::edge_and_list;
+use crate::ranges::{
+    edge_and_list, edge_ends, effort, just_number, number_list, one_number, two_numbers,
+};
 use crate::tree::node;
 use std::alloc::{AllocError, Global};
 use xn_list::Sequence;

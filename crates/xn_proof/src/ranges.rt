@@ -187,3 +187,18 @@ pub fn small_of(value: Option<u64>) -> u32
         _ => 0,
     }
 }
+
+/// An edge, and a list of edges.
+#[tactic(auto, unfolding(crate::specs::Ranges::over_form))]
+pub fn edge_and_list(
+    alloc: Global,
+    number: u64,
+    values: &Numbers,
+) -> Result<(u32, Vec<u32>), AnswerErr>
+    ensures { Gives (λ x. (x.0, x.1.items)) result (over_form number values.now) }
+{
+    let (edge, rest) = values.first(number)?;
+    let list = number_list(alloc, 999, number, &rest)?;
+    let edge = small(number, u32::MAX, edge)?;
+    Ok((edge, list))
+}

@@ -1,14 +1,13 @@
 // The nodes of the proof tree.
-ghost use Rattle.std.specs.Prelude.{◌≡◌, IfOk, length};
+ghost use Rattle.std.specs.Prelude.{◌≡◌, IfOk};
 ghost use Rattle.xn_text.specs.Pieces.{words_of};
-ghost use Rattle.xn_proof.specs.Proofs.{node_of, nodes_at};
+ghost use Rattle.xn_proof.specs.Forms.{node_of};
 ghost use Rattle.xn_proof.specs.Ranges.{edges_form, is_half, leaf_form, parts_of, parts_at};
-ghost use Rattle.xn_proof.specs.Reading.{Gives, Reads};
+ghost use Rattle.xn_proof.specs.Reading.{Gives};
 
 use crate::flaw::{AnswerErr, syntax};
 use crate::numbers::{Numbers, has_key, keyed_numbers};
 use crate::ranges::{below, factor, small, small_of};
-use crate::reader::Reader;
 use std::alloc::{AllocError, Global};
 use xn_kinds::Node;
 use xn_list::Sequence;
@@ -87,7 +86,7 @@ fn is_half(count: Option<u64>, length: usize) -> bool
 }
 
 /// A node of the tree, or none at the line `end`.
-#[tactic(auto, unfolding(crate::specs::Proofs::node_of))]
+#[tactic(auto, unfolding(crate::specs::Forms::node_of))]
 pub fn node(
     alloc: Global,
     edges: u32,
@@ -118,23 +117,4 @@ pub fn node(
     let values = keyed_numbers(b"end".as_slice(), number, line)?;
     values.none(number)?;
     Ok(None)
-}
-
-/// The nodes up to the line `end`.
-pub fn nodes(
-    alloc: Global,
-    edges: u32,
-    rows: u32,
-    reader: &mut Reader,
-) -> Result<Vec<Node>, AnswerErr>
-    ensures { Reads (λ x. x.items) result reader.new (nodes_at edges rows (length reader.old.1) reader.old) }
-{
-    let mut nodes = Vec::new(alloc);
-    loop {
-        let (number, line) = reader.line()?;
-        match node(alloc, edges, rows, number, line)? {
-            Some(node) => nodes.push(node)?,
-            None => return Ok(nodes),
-        }
-    }
 }

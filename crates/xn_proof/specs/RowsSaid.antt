@@ -1,5 +1,5 @@
 -- What the lines of an answer said of its rows so far.
-use Rattle.std.specs.Prelude.{ℕ, ◌+◌, ◌==◌, List, [], ◌∷◌, ◌++◌, Option, Some, None, length, if◌then◌else◌}
+use Rattle.std.specs.Prelude.{◌≡◌, ◌⊎◌, ℕ, ◌+◌, ◌==◌, List, [], ◌∷◌, ◌++◌, Option, Some, None, length, if◌then◌else◌}
 use Rattle.xn_kinds.specs.declared.rows.Evidence.{Evidence}
 use Rattle.xn_kinds.specs.declared.rows.Evidence.TheVariants as evidence
 use Rattle.xn_kinds.specs.declared.rows.Row.{Row}
@@ -52,3 +52,16 @@ rows_said s (item.Branch branch) = record s { branch = branch }
 rows_said s (item.Path path) = with_row (row_by_path s path) (record s { paths = s.paths ++ path ∷ [] })
 rows_said s (item.Extension list) = with_row (Some (row_by_list s list)) s
 rows_said s line = s
+
+-- there are five or six branch nodes
+abbrev pub IsBranch : List ℕ → Type 0
+IsBranch branch = (length branch ≡ 5) ⊎ (length branch ≡ 6)
+
+-- the line may come where this was said: branch nodes stand before each path
+abbrev pub IsInPlace : RowsSaid → Item → Type 0
+IsInPlace s (item.Path path) = IsBranch s.branch
+IsInPlace s line = Unit {0}
+
+-- what a part that keeps these says
+abbrev pub rows_kept : List Row → List ℕ → List (List ℕ) → List ℕ → List (List ℕ) → RowsSaid
+rows_kept whole listed orders branch paths = record { whole = whole; listed = listed; orders = orders; branch = branch; paths = paths }
