@@ -18,7 +18,7 @@ def other_number(word, generator):
 
 
 def lines_of(lines, key):
-    return [i for i, line in enumerate(lines) if line.split(" ")[0] == key]
+    return [i for i, line in enumerate(lines) if line.partition(" ")[0] == key]
 
 
 def some_place(words, generator):
@@ -29,9 +29,12 @@ def some_place(words, generator):
 
 def some_line(lines, generator):
     """The number of a line, seldom of one with nothing but a count. A kind of line is chosen first, since some kinds have many lines."""
-    keys = sorted({line.split(" ")[0] for line in lines})
+    kinds = {}
+    for i, line in enumerate(lines):
+        kinds.setdefault(line.partition(" ")[0], []).append(i)
+    kinds = list(kinds.values())
     for _ in range(4):
-        i = generator.choice(lines_of(lines, generator.choice(keys)))
+        i = generator.choice(generator.choice(kinds))
         words = lines[i].split(" ")
         if len(words) > COUNTS.get(words[0], 0) + 1:
             break

@@ -22,9 +22,6 @@ const SOLVE: &str = "xnum solve graph --budget 300";
 // How many bytes a read gives.
 const STEP: usize = 100;
 
-// How many bytes a write takes.
-const PACE: usize = 5;
-
 fn words_of(alloc: Global, line: &str) -> Result<Vec<String>, Fail> {
     let mut words = Vec::new(alloc);
     for word in line.split_whitespace() {
@@ -33,16 +30,8 @@ fn words_of(alloc: Global, line: &str) -> Result<Vec<String>, Fail> {
     Ok(words)
 }
 
-// What a command writes over files with the names `graph` and `answer`, and its code. The call of the input with this
-// number fails, where there is one, and the write with that one.
-fn ended(
-    alloc: Global,
-    line: &str,
-    files: (&str, &[u8]),
-    read: Option<u64>,
-    write: Option<u64>,
-) -> Result<(String, u8), Fail> {
-    let words = words_of(alloc, line)?;
+// These files with their names.
+fn files_of(alloc: Global, files: (&str, &[u8])) -> Result<Vec<(String, Vec<u8>)>, Fail> {
     let (graph, answer) = files;
     let mut listed = Vec::new(alloc);
     listed.push((
@@ -53,12 +42,31 @@ fn ended(
         String::from_str(alloc, "answer")?,
         Vec::from_slice(alloc, answer)?,
     ))?;
+    Ok(listed)
+}
+
+// What a command writes over files with the names `graph` and `answer`, and its code.
+fn ended(alloc: Global, line: &str, files: (&str, &[u8])) -> Result<(String, u8), Fail> {
+    ended_with(alloc, line, files, None, None, 100)
+}
+
+// The same where the call of the input with this number fails, if one does, and the write with that one, and a write takes
+// so many bytes.
+fn ended_with(
+    alloc: Global,
+    line: &str,
+    files: (&str, &[u8]),
+    read: Option<u64>,
+    write: Option<u64>,
+    pace: usize,
+) -> Result<(String, u8), Fail> {
+    let words = words_of(alloc, line)?;
     let mut reads = Vec::new(alloc);
     reads.extend(read)?;
     let mut writes = Vec::new(alloc);
     writes.extend(write)?;
-    let mut input = MemInput::new(listed, STEP, reads);
-    let mut out = MemSink::new(alloc, 4000, PACE, writes)?;
+    let mut input = MemInput::new(files_of(alloc, files)?, STEP, reads);
+    let mut out = MemSink::new(alloc, 4000, pace, writes)?;
     let status = top(alloc, &words, &mut input, &mut out, &mut Vec::new(alloc));
     let written = String::from_utf8(Vec::from_slice(alloc, out.bytes())?)?;
     Ok((written, status.code()))

@@ -12,7 +12,7 @@ fn comes_to(alloc: Global, answer: &str, changed: (&str, &str), want: &str) -> R
     let (old, new) = changed;
     let text = answer.replacen(alloc, old, new, 1)?;
     let files = (gml.as_str(), text.as_bytes());
-    let (written, code) = ended(alloc, CHECK, files, None, None)?;
+    let (written, code) = ended(alloc, CHECK, files)?;
     let is_accepted = want.starts_with("accepted");
     if written.as_str() != want || (code == 0) != is_accepted || code > 1 {
         return Ok(false);
