@@ -105,6 +105,7 @@ def node_numbers(graph):
     return numbers
 
 
+@functools.lru_cache(1 << 8)
 def read(data):
     """The number of nodes, the edges, the number of loops, and the ids."""
     graphs = [(value, at) for name, value, at, _ in pairs_of(data) if name == b"graph" and isinstance(value, list)]
