@@ -1,7 +1,7 @@
 // The numbers of a line, each in its range.
 ghost use Rattle.std.specs.Prelude.{◌≡◌, ◌<◌, ◌≤◌, ◌-◌, ◌^◌, IfOk, length, map};
 ghost use Rattle.xn_graph.specs.Limits.{IsEdge};
-ghost use Rattle.xn_proof.specs.Ranges.{at_most, below, counted, edge_form, effort_form, factor, just_form, list_form, one_form, small_of, two_form};
+ghost use Rattle.xn_proof.specs.Ranges.{at_most, below, counted, edge_form, effort_form, factor, just_form, list_form, one_form, over_form, small_of, two_form};
 ghost use Rattle.xn_proof.specs.Reading.{Gives, each_at};
 
 use crate::flaw::{AnswerErr, loop_flaw, out_of_range, syntax};
