@@ -12,8 +12,11 @@ use xn_dmp::{Attempt, Jam, try_embed};
 use xn_extend::listed_web;
 use xn_graph::Web;
 
+// Of a web with more segments those outside a spanning tree are left out before chains.
+const SMALL: u32 = 256;
+
 /// Segments at which embedding by paths gets stuck, where no chain can be left out. It begins with the block of the
-/// jam, and leaves out segments outside a spanning tree, then chains. The list rises.
+/// jam, and leaves out segments outside a spanning tree where the web is large, then chains. The list rises.
 ///
 /// The contract says only that the segments are different: what they show is tested later.
 pub fn core_of(alloc: Global, web: &Web, jam: &Jam) -> Result<Vec<u32>, AllocError>
@@ -24,7 +27,9 @@ pub fn core_of(alloc: Global, web: &Web, jam: &Jam) -> Result<Vec<u32>, AllocErr
     let size = web.segments();
     let all = (0..size).collect::<Vec<u32>>(alloc)?;
     let mut keep = block_of(alloc, web, &all, jam, size)?;
-    keep = sparse(alloc, web, keep)?;
+    if size > SMALL {
+        keep = sparse(alloc, web, keep)?;
+    }
     keep = without_chains(alloc, web, keep)?;
     marked(alloc, web, &keep)
 }
@@ -78,14 +83,13 @@ fn without_chains(alloc: Global, web: &Web, keep: Vec<bool>) -> Result<Vec<bool>
     requires { HasNoLoop web.now.ends }
 {
     let mut keep = keep;
-    let mut many = web.segments();
+    let mut many = web.segments() / 2;
     for _ in 0..32 {
-        let chains = chain_count(alloc, web, &keep)?;
-        many = (many / 2).min(chains / 2);
         if many == 0 {
             break;
         }
         keep = thinned(alloc, web, keep, many)?;
+        many /= 2;
     }
     Ok(keep)
 }
