@@ -1,4 +1,5 @@
 """Random graphs and their texts, and random changes of answers, of graph texts and of words."""
+import functools
 import re
 
 # where the number of words that follow stands
@@ -17,8 +18,19 @@ def other_number(word, generator):
     return generator.choice(near * 20 + far)
 
 
-def lines_of(lines, key):
-    return [i for i, line in enumerate(lines) if line.split(" ")[0] == key]
+def kinds_of(lines):
+    """The places of the lines of each kind."""
+    kinds = {}
+    for i, line in enumerate(lines):
+        kinds.setdefault(line.partition(" ")[0], []).append(i)
+    return kinds
+
+
+@functools.lru_cache(1 << 8)
+def lines_of(data):
+    """The lines of an answer, and their kinds."""
+    lines = data.decode().splitlines()
+    return lines, kinds_of(lines)
 
 
 def some_place(words, generator):
@@ -27,21 +39,21 @@ def some_place(words, generator):
     return generator.randrange(1, len(words)) if j == COUNTS.get(words[0]) else j
 
 
-def some_line(lines, generator):
+def some_line(lines, kinds, generator):
     """The number of a line, seldom of one with nothing but a count. A kind of line is chosen first, since some kinds have many lines."""
-    keys = sorted({line.split(" ")[0] for line in lines})
+    kinds = list(kinds.values())
     for _ in range(4):
-        i = generator.choice(lines_of(lines, generator.choice(keys)))
+        i = generator.choice(generator.choice(kinds))
         words = lines[i].split(" ")
         if len(words) > COUNTS.get(words[0], 0) + 1:
             break
     return i
 
 
-def changed_lines(lines, generator):
+def changed_lines(lines, kinds, generator):
     """The lines with one change."""
     lines = lines[:]
-    i = some_line(lines, generator)
+    i = some_line(lines, kinds, generator)
     kind = generator.choice([*range(16), *range(16), *range(16, 20)])
     words = lines[i].split(" ")
     if kind < 11 and len(words) > 1:
@@ -49,7 +61,7 @@ def changed_lines(lines, generator):
         words[j] = other_number(words[j], generator)
         lines[i] = " ".join(words)
     elif kind < 16 and len(words) > 1:
-        like = generator.choice(lines_of(lines, words[0]))
+        like = generator.choice(kinds[words[0]])
         others = words if like == i else lines[like].split(" ")
         j, k = some_place(words, generator), some_place(others, generator) if len(others) > 1 else 0
         words[j], others[k] = others[k], words[j]
@@ -68,9 +80,10 @@ def changed_lines(lines, generator):
 
 def changed_answer(data, generator):
     """The answer with one to three changes of lines, and now and then of its end."""
-    lines = data.decode().splitlines()
+    lines, kinds = lines_of(data)
     for _ in range(generator.choice([1, 1, 1, 2, 3])):
-        lines = changed_lines(lines, generator) if lines else ["end"]
+        lines = changed_lines(lines, kinds or kinds_of(lines), generator) if lines else ["end"]
+        kinds = None
     data = "".join(line + "\n" for line in lines).encode()
     if generator.randrange(20) == 0:
         data = generator.choice([data[:-1], data + b"\n", data + b"e", data[: generator.randrange(len(data))]])

@@ -5,6 +5,7 @@ It prints `accepted LOWER UPPER`, or `refused LINE ..` with the first flaw; `see
 bounds are sums of whole numbers variable by variable, components are found by walks, and flat insertions are all tried. With EVERY, only
 each EVERYth leaf has its bound computed; all else is still checked. The graph's text is taken to be GML that the program would read.
 """
+import functools
 import re
 import sys
 
@@ -12,6 +13,7 @@ from plain_rules import Flaw, State, bound, examine, independent_pairs, read_gml
 
 NUMBER = re.compile(rb"0|[1-9][0-9]*")
 WORD = 1 << 32
+END = b"end", ()
 # numbers may have any length
 getattr(sys, "set_int_max_str_digits", int)(0)
 
@@ -23,35 +25,48 @@ class Refused(Exception):
         super().__init__(f"refused {line} {text}")
 
 
+@functools.lru_cache(1 << 16)
+def parted(line):
+    """The first word of a line, and the numbers behind it; None for them where a word isn't one."""
+    key, *words = line.split(b" ")
+    return key, tuple(map(int, words)) if all(map(NUMBER.fullmatch, words)) else None
+
+
 class Text:
     def __init__(self, data):
         self.data, self.at, self.number = data, 0, 0
 
-    def words(self):
+    def next(self):
+        """The next line, parted."""
         self.number += 1
         end = self.data.find(b"\n", self.at)
         if end < 0:
             self.refuse("syntax")
-        words = self.data[self.at : end].split(b" ")
+        line = self.data[self.at : end]
         self.at = end + 1
-        return words
+        return parted(line)
 
     def refuse(self, text):
         raise Refused(self.number, text)
 
     def range_test(self, *bounds):
         """Pairs of a number and the first one past its range."""
-        if any(number >= end for number, end in bounds):
-            self.refuse("number")
+        for number, end in bounds:
+            if number >= end:
+                self.refuse("number")
+
+    def list_test(self, count, end, numbers):
+        """The count of a list and its first one past its range; the numbers of the list."""
+        self.range_test((count, end), (max(numbers, default=0), WORD))
 
     def line(self, key, count):
         """The numbers of a line with so many numbers."""
-        return self.numbers(self.words(), key, count)
+        return self.numbers(self.next(), key, count)
 
-    def numbers(self, words, key, count):
-        if words[0] != key or not all(NUMBER.fullmatch(w) for w in words[1:]):
+    def numbers(self, line, key, count):
+        found = line[1]
+        if line[0] != key or found is None:
             self.refuse("syntax")
-        found = list(map(int, words[1:]))
         if isinstance(count, int):
             good = len(found) == count
         else:
@@ -61,8 +76,8 @@ class Text:
             self.refuse("syntax")
         return found
 
-    def marker(self, words):
-        if self.words() != words.split(b" "):
+    def marker(self, key, *numbers):
+        if self.next() != (key, numbers):
             self.refuse("syntax")
 
     def judged(self, call, prefix=""):
@@ -74,7 +89,7 @@ class Text:
 
 def read_edges(text, graph):
     """The number of nodes and the edges: those of the graph where one is given."""
-    text.marker(b"crossing-answer 1")
+    text.marker(b"crossing-answer", 1)
     n, m = text.line(b"graph", 2)
     text.range_test((n, 1001), (m, 1001))
     if graph and (n, m) != (graph[0], len(graph[1])):
@@ -92,7 +107,7 @@ def read_edges(text, graph):
         if graph and (u, v) != graph[1][e]:
             text.refuse(f"edge-differs {e}")
         edges.append((u, v))
-    return n, edges
+    return n, tuple(edges)
 
 
 def read_front(text, graph):
@@ -105,14 +120,14 @@ def read_front(text, graph):
     orders = []
     for _ in edges:
         k, *own = text.line(b"along", (0, 1))
-        text.range_test((k, 1000), *((f, WORD) for f in own))
-        orders.append(own)
+        text.list_test(k, 1000, own)
+        orders.append(tuple(own))
     turns = []
     for _ in range(len(edges) + sum(map(len, orders))):
         turns += text.line(b"turn", 2)
         text.range_test((turns[-2], WORD), (turns[-1], WORD))
     text.marker(b"drawn")
-    drawing = nodes, edges, orders, turns
+    drawing = nodes, edges, tuple(orders), tuple(turns)
     counts = text.judged(lambda: examine(*drawing))
     if counts[0] != upper:
         text.refuse(f"count {upper} {counts[0]}")
@@ -125,34 +140,34 @@ def read_row(text, edges):
     listed, lists = [], []
     for _ in range(size):
         e, k, *own = text.line(b"over", (1, 1))
-        text.range_test((e, WORD), (k, 1000), *((f, WORD) for f in own))
+        text.list_test(k, 1000, [e, *own])
         listed.append(e)
-        lists.append(own)
-    words = text.words()
-    if words[0] == b"extension":
-        k, *paths = text.numbers(words, b"extension", (0, 1))
-        text.range_test((k, 1000001), *((s, WORD) for s in paths))
-        return listed, lists, b"extension", [], paths
-    kind = b"three" if words[0] == b"three" else b"five"
-    branch = text.numbers(words, kind, 6 if kind == b"three" else 5)
-    text.range_test(*((b, WORD) for b in branch))
+        lists.append(tuple(own))
+    line = text.next()
+    if line[0] == b"extension":
+        k, *paths = text.numbers(line, b"extension", (0, 1))
+        text.list_test(k, 1000001, paths)
+        return tuple(listed), tuple(lists), b"extension", (), tuple(paths)
+    kind = b"three" if line[0] == b"three" else b"five"
+    branch = text.numbers(line, kind, 6 if kind == b"three" else 5)
+    text.range_test((max(branch), WORD))
     paths = []
     for _ in range(9 if kind == b"three" else 10):
         k, *path = text.line(b"path", (0, 1))
-        text.range_test((k, 1000001), *((s, WORD) for s in path))
-        paths.append(path)
-    return listed, lists, kind, branch, paths
+        text.list_test(k, 1000001, path)
+        paths.append(tuple(path))
+    return tuple(listed), tuple(lists), kind, branch, tuple(paths)
 
 
-def read_step(text, words, edges, rows):
+def read_step(text, line, edges, rows):
     """A node line: its key, and a divisor and parts, or two edges."""
-    if words[0] == b"leaf":
-        divisor, _, *flat = text.numbers(words, b"leaf", (1, 2))
-        parts = list(zip(flat[::2], flat[1::2]))
-        text.range_test(*((x - 1 if x else 1 << 63, (1 << 63) - 1) for x in [divisor] + flat[1::2]), *((r, rows) for r, _ in parts))
-        return b"leaf", divisor, parts
-    kind = b"place" if words[0] == b"place" else b"pair"
-    e, f = text.numbers(words, kind, 2)
+    if line[0] == b"leaf":
+        divisor, _, *flat = text.numbers(line, b"leaf", (1, 2))
+        if max(flat[::2], default=-1) >= rows or not all(0 < x < 1 << 63 for x in [divisor, *flat[1::2]]):
+            text.refuse("number")
+        return b"leaf", divisor, list(zip(flat[::2], flat[1::2]))
+    kind = b"place" if line[0] == b"place" else b"pair"
+    e, f = text.numbers(line, kind, 2)
     text.range_test((e, len(edges)), (f, len(edges)))
     return kind, e, f
 
@@ -168,14 +183,17 @@ def judge_leaf(text, number, parts, state, given, every):
             text.refuse(f"weak {found} {need}")
 
 
+kept_pairs = functools.lru_cache(1 << 8)(independent_pairs)
+
+
 def judge_tree(text, edges, terms, lower, every):
-    pairs = independent_pairs(edges)
+    pairs = kept_pairs(edges)
     pending, number, leaves = [State({}, {})], 0, 0
     while True:
-        words = text.words()
-        if words == [b"end"]:
+        line = text.next()
+        if line == END:
             break
-        kind, first, second = read_step(text, words, edges, len(terms))
+        kind, first, second = read_step(text, line, edges, len(terms))
         state = pending.pop() if pending else None
         if kind == b"leaf":
             judge_leaf(text, number, second, state, (first, pairs, terms, lower, leaves), every)
@@ -206,7 +224,7 @@ def ends(text):
 
 def check(graph, data, every=1):
     """The bounds that are accepted; raises what is refused."""
-    nodes, edges, _ = graph
+    nodes, edges = graph[0], tuple(graph[1])
     text = Text(data)
     _, counts, lower = read_front(text, graph)
     terms = []
@@ -225,8 +243,8 @@ def see(graph, data):
     drawing, counts, _ = read_front(text, graph)
     rows = sum(1 for _ in read_rows(text, drawing[1]))
     text.marker(b"tree")
-    while (words := text.words()) != [b"end"]:
-        read_step(text, words, drawing[1], rows)
+    while (line := text.next()) != END:
+        read_step(text, line, drawing[1], rows)
     ends(text)
     return drawing, counts
 

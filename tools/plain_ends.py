@@ -1,6 +1,4 @@
 """How a run of `xnum` has to end, by plain judges: status, standard output and standard error."""
-import os
-
 import plain_check
 import plain_gml
 import plain_rules
@@ -22,22 +20,22 @@ def judged(command, graph, data):
     return plain_rules.shown(graph[3], *drawing[1:]) if graph else drawing_line(counts)
 
 
-def wanted(words, folder):
-    """The end of the run with these words (bytes, without the program's name) in the folder. For `solve` of a graph it is that
-    graph and the budget, for `solve_flaw`."""
+def wanted(words, files):
+    """The end of the run with these words (bytes, without the program's name) over these files, by their names. For `solve` of a
+    graph it is that graph and the budget, for `solve_flaw`."""
     request = plain_words.read(words)
     if request is None:
         return NO_WORDS
     command, names, budget = request
     try:
-        data = open(os.path.join(folder.encode(), names[0]), "rb").read()
+        data = files[names[0]]
         graph = None if command == b"examine" else plain_gml.read(data)
         if command == b"solve":
             return graph[:3], budget
         if graph:
-            data = open(os.path.join(folder.encode(), names[1]), "rb").read()
+            data = files[names[1]]
         return 0, judged(command, graph, data), ""
-    except OSError:
+    except KeyError:
         return NO_READ
     except plain_gml.Ended as ended:
         return ended.status, "", ended.text

@@ -4,6 +4,7 @@
 It prints the numbers of nodes, edges and loops, or ends as `xnum` does, with the same status and text on standard error. It shares
 nothing with the program: tokens are found by one expression, and all pairs are kept.
 """
+import functools
 import re
 import sys
 
@@ -28,19 +29,21 @@ def refused(kind, at):
     return Ended(3, f"xnum: graph text refused: {kind} at {at}\n")
 
 
+@functools.lru_cache(1 << 12)
+def formed(run):
+    """The run, or nothing where it is malformed."""
+    return run if WORD.fullmatch(run) or NUMBER.fullmatch(run) else b""
+
+
 def tokens_of(data):
     """The tokens with their offsets; what is malformed is a token of no kind."""
-    at = 3 if data.startswith(b"\xef\xbb\xbf") else 0
-    while at < len(data):
-        found = TOKEN.match(data, at)
-        if found["list"] or found["string"]:
-            yield found.group(), at
-        elif found["cut"]:
+    for found in TOKEN.finditer(data, 3 if data.startswith(b"\xef\xbb\xbf") else 0):
+        if found.lastgroup == "run":
+            yield formed(found.group()), found.start()
+        elif found.lastgroup == "cut":
             yield b"", len(data)
-        elif found["run"]:
-            run = found["run"]
-            yield (run if WORD.fullmatch(run) or NUMBER.fullmatch(run) else b""), at
-        at = found.end()
+        elif found.lastgroup:
+            yield found.group(), found.start()
 
 
 def pairs_of(data):
@@ -102,6 +105,7 @@ def node_numbers(graph):
     return numbers
 
 
+@functools.lru_cache(1 << 8)
 def read(data):
     """The number of nodes, the edges, the number of loops, and the ids."""
     graphs = [(value, at) for name, value, at, _ in pairs_of(data) if name == b"graph" and isinstance(value, list)]

@@ -1,4 +1,5 @@
 """The rules of answers, plainly and slowly: drawings, rows, proof trees, bounds. tools/plain_check.py reads the texts for them."""
+import functools
 import re
 
 FIVE = [(i, j) for i in range(5) for j in range(i + 1, 5)]
@@ -147,6 +148,7 @@ def rotation_flaw(segments, turns):
             raise Flaw(f"rotation {d}")
 
 
+@functools.lru_cache(1 << 8)
 def examine(nodes, edges, orders, turns):
     """The numbers of crossings, nodes, segments, faces and components of the web, or the first flaw."""
     listed = list(range(len(edges)))
@@ -276,6 +278,7 @@ def extends(segments, chosen):
     return go(0)
 
 
+@functools.lru_cache(1 << 12)
 def row_flaw(nodes, edges, row):
     listed, lists, kind, branch, paths = row
     for i, e in enumerate(listed):
@@ -292,6 +295,7 @@ def row_flaw(nodes, edges, row):
         walks_flaw(all_nodes, segments, branch, FIVE if kind == b"five" else THREE, paths)
 
 
+@functools.lru_cache(1 << 12)
 def row_terms(edges, row):
     """The value of a row: a constant and coefficients of variables (e, f) and (e, f, g)."""
     listed, lists = row[0], row[1]
@@ -325,13 +329,13 @@ class State:
     def __init__(self, decided, placed):
         self.decided, self.placed = decided, placed
 
-    def value(self, name):
-        if len(name) == 2:
-            return self.decided.get(name)
-        own = self.placed.get(name[0], [])
-        if name[1] in own and name[2] in own:
-            return 1 if own.index(name[1]) < own.index(name[2]) else 0
-        return None
+    def values(self):
+        """The variables that have a value, and it."""
+        yield from self.decided.items()
+        for e, own in self.placed.items():
+            for i, g in enumerate(own):
+                for f in own[:i]:
+                    yield (e, min(f, g), max(f, g)), int(f < g)
 
     def children(self, edges, kind, e, f):
         """The children in order, or None where the node doesn't open the state."""
@@ -347,7 +351,7 @@ class State:
 
 
 def bound(pairs, terms, state, divisor, parts):
-    """The least over the box, variable by variable."""
+    """The least over the box: each variable as cheap as it may be, and then those that have a value as they are."""
     total = 0
     weight = dict.fromkeys(pairs, divisor)
     for row, multiplier in parts:
@@ -355,7 +359,8 @@ def bound(pairs, terms, state, divisor, parts):
         total -= multiplier * (constant - 1)
         for name, sign in own:
             weight[name] = weight.get(name, 0) - multiplier * sign
-    for name, coefficient in weight.items():
-        value = state.value(name)
-        total += min(0, coefficient) if value is None else coefficient * value
+    total += sum(coefficient for coefficient in weight.values() if coefficient < 0)
+    for name, value in state.values():
+        coefficient = weight.get(name, 0)
+        total += coefficient * value - min(0, coefficient)
     return total

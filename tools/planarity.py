@@ -284,6 +284,20 @@ def moebius(rungs):
     return size, [(i, (i + 1) % size) for i in range(size)] + [(i, i + rungs) for i in range(rungs)]
 
 
+def square(nodes):
+    """A cycle, and a segment over each two of it that follow each other."""
+    return nodes, [(i, (i + step) % nodes) for step in (1, 2) for i in range(nodes)]
+
+
+def shuffled(web, seed=1):
+    """Other names, and the segments in another order."""
+    r = random.Random(seed)
+    names, ends = list(range(web[0])), list(web[1])
+    r.shuffle(names)
+    r.shuffle(ends)
+    return web[0], [(names[u], names[v]) for u, v in ends]
+
+
 def long_paths(nodes, ends, length):
     """Each segment as a path of this length."""
     longer = []
@@ -441,6 +455,9 @@ def times(folder):
         ("planar", 5, "1,000 parallel segments", (2, [(0, 1)] * 1_000)),
         ("planar", 10, "grid 22 x 22 and two far segments", large),
         ("planar", 10, "Moebius ladder", moebius(333)),
+        ("planar", 5, "Moebius ladder, shuffled", shuffled(moebius(333))),
+        ("planar", 10, "square of an odd cycle", square(499)),
+        ("planar", 5, "square of an odd cycle, shuffled", shuffled(square(499))),
         ("planar", 10, "K5 with paths of 100", long_paths(*k5, 100)),
         ("planar", 100, "K8", complete(8)),
         ("try_embed", 1_000, "K7 with 9 crossings", planted(7, 9)),

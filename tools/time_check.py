@@ -1,8 +1,8 @@
 #!/usr/bin/env python3
 """Times `xnum check` and reads the most memory that it held: python3 tools/time_check.py FOLDER [PROGRAM]
 
-It makes the files of tools/checked_answers.py and a text of 50 MB of tools/large_gml.py in FOLDER, where they aren't there yet, and runs
-`./xnum check`, or PROGRAM, three times on each. It ends with 1 where an output isn't the known one, or a limit is passed.
+It makes the files of tools/checked_answers.py, those of tools/hanging_answer.py with 8 and 990 segments and a text of 50 MB of
+tools/large_gml.py in FOLDER, where they aren't there yet, and runs `./xnum check`, or PROGRAM, three times on each. It ends with 1 where an output isn't the known one, or a limit is passed.
 """
 import os
 import pathlib
@@ -16,6 +16,8 @@ RUNS = [
     ("k6.gml", "k6.answer", "accepted 3 3", 0.2, None),
     ("petersen.gml", "petersen.answer", "accepted 2 2", 0.2, None),
     ("searched.gml", "searched.answer", "accepted 3 3", 0.2, None),
+    ("hanging8.gml", "hanging8.answer", "accepted 1 1", 0.01, None),
+    ("hanging990.gml", "hanging990.answer", "accepted 1 1", 1, None),
     ("large.gml", "large.answer", "accepted 3 3", 10, "large.answer"),
     ("long.gml", "k6.answer", "refused 2 size-differs", 2, "long.gml"),
 ]
@@ -25,6 +27,10 @@ def make(folder):
     missing = [name for name in ("k6", "petersen", "searched", "large") if not (folder / f"{name}.answer").exists()]
     if missing:
         subprocess.run([sys.executable, TOOLS / "checked_answers.py", folder, *missing], check=True)
+    for count in (8, 990):
+        graph, answer = folder / f"hanging{count}.gml", folder / f"hanging{count}.answer"
+        if not answer.exists():
+            subprocess.run([sys.executable, TOOLS / "hanging_answer.py", str(count), graph, answer], check=True)
     if not (folder / "long.gml").exists():
         with open(folder / "long.gml", "w") as file:
             subprocess.run([sys.executable, TOOLS / "large_gml.py", "50000000"], check=True, stdout=file)

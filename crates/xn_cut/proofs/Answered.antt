@@ -7,8 +7,6 @@ use Rattle.xn_model.specs.Lists.{has}
 use Rattle.xn_model.specs.Map.{IsFlat}
 use Rattle.xn_model.specs.Orders.{IsOrders, order_at}
 use Rattle.xn_model.specs.Web.{web_of}
-use Rattle.xn_kinds.specs.Row.{EvidenceHolds}
-use Rattle.xn_kinds.specs.declared.rows.Evidence.{Evidence}
 use Rattle.xn_kinds.specs.declared.rows.Row.{Row}
 use Rattle.xn_cut.specs.Cuts.{CrossesPlanted, IsCut, IsCutRow, IsJudged, crosses_in}
 use Rattle.xn_cut.specs.Kept.{IsPart}
@@ -26,7 +24,7 @@ row_crosses g orders edges lists row part edges_are lists_are e f e_in f_in =
 pub part_answer : (g : Graph) (orders : List (List ℕ)) (edges : List ℕ) (lists : List (List ℕ)) → IsPart g orders edges lists → (found : Option Row) → IsJudged g edges lists found →
     IfSome found (IsCutRow g (crosses_in g orders))
 part_answer g orders edges lists part None is = tt
-part_answer g orders edges lists part (Some row) is = record { holds = is.0; crosses = row_crosses g orders edges lists row part is.1 is.2 }
+part_answer g orders edges lists part (Some row) is = record { holds = is.0; crosses = row_crosses g orders edges lists row part is.1 is.2; kind = is.3 }
 
 -- the orders of all edges
 pub whole_answer : (g : Graph) (orders : List (List ℕ)) → IsOrders g.ends (edges_of g) (order_of g orders) → (edges : List ℕ) (lists : List (List ℕ)) → edges ≡ edges_of g → lists ≡ orders →
@@ -44,6 +42,7 @@ whole_answer g orders are edges lists edges_are lists_are (Some row) is = record
   holds = is.0;
   crosses = λ e f e_in f_in.
       ap (λ (ls : List (List ℕ)). has (order_at row.edges ls e) f) (is.2 ∙ lists_are) ∙ ap (λ (es : List ℕ). has (order_at es orders e) f) (is.1 ∙ edges_are);
+  kind = is.3;
 }
 
 -- all edges with the orders of all
@@ -51,11 +50,6 @@ pub whole_orders : (g : Graph) (orders : List (List ℕ)) (edges : List ℕ) (li
     IsOrders g.ends edges (order_at edges lists)
 whole_orders g orders edges lists are edges_are lists_are =
     subst (λ (ls : List (List ℕ)). IsOrders g.ends edges (order_at edges ls)) (sym lists_are) (subst (λ (es : List ℕ). IsOrders g.ends es (order_at es orders)) (sym edges_are) are)
-
--- a row of just these edges and orders
-pub row_judged : (g : Graph) (edges : List ℕ) (lists : List (List ℕ)) (evidence : Evidence) → length lists ≡ length edges → IsOrders g.ends edges (order_at edges lists) →
-    EvidenceHolds (web_of g edges (order_at edges lists)) evidence → IsJudged g edges lists (Some (record { edges = edges; orders = lists; evidence = evidence }))
-row_judged g edges lists evidence fits are holds = (record { lists_fit = fits; orders = are; evidence = holds }, refl, refl)
 
 -- the crossings of the orders are the planted pairs
 pub planted_answer : (g : Graph) (planted : ℕ → ℕ → Bool) (orders : List (List ℕ)) → CrossWhere g planted orders → (found : Option Row) → IsCut g (crosses_in g orders) found → IsCut g planted found

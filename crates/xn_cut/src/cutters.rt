@@ -1,6 +1,7 @@
 ghost use Rattle.std.specs.Prelude.{◌≡◌, IfNone, IfOk, IfSome};
 ghost use Rattle.xn_kinds.specs.Row.{RowHolds};
 ghost use Rattle.xn_kinds.specs.State.{IsState};
+ghost use Rattle.xn_kura.specs.Flaws.{HasAKind};
 ghost use Rattle.xn_tree.specs.Given.{state_of};
 ghost use Rattle.xn_cutter.specs.Point.{IsPoint};
 ghost use Rattle.xn_cut.specs.Cuts.{CrossesPlanted, IsCut, LieFlat};
@@ -63,6 +64,7 @@ impl Cutter for OnesCutter {
         requires state { IsState graph.now (state_of given.now) }
         requires point { IsPoint graph.now point.now }
         ensures holds { IfOk result (λ cut. IfSome cut (RowHolds graph.now)) }
+        ensures kind { IfOk result (λ cut. IfSome cut (λ row. HasAKind row.evidence)) }
         ensures planted { IfOk result (λ cut. IfSome cut (CrossesPlanted (is_planted is_one point.now))) }
         ensures none { IfOk result (λ cut. IfNone cut (LieFlat graph.now (is_planted is_one point.now))) }
     {
@@ -85,6 +87,7 @@ impl Cutter for RoundCutter {
         requires state { IsState graph.now (state_of given.now) }
         requires point { IsPoint graph.now point.now }
         ensures holds { IfOk result (λ cut. IfSome cut (RowHolds graph.now)) }
+        ensures kind { IfOk result (λ cut. IfSome cut (λ row. HasAKind row.evidence)) }
         ensures planted { IfOk result (λ cut. IfSome cut (CrossesPlanted (is_planted is_half point.now))) }
         ensures none { IfOk result (λ cut. IfNone cut (LieFlat graph.now (is_planted is_half point.now))) }
     {
@@ -107,6 +110,7 @@ impl Cutter for OrderCutter {
         requires state { IsState graph.now (state_of given.now) }
         requires point { IsPoint graph.now point.now }
         ensures holds { IfOk result (λ cut. IfSome cut (RowHolds graph.now)) }
+        ensures kind { IfOk result (λ cut. IfSome cut (λ row. HasAKind row.evidence)) }
         ensures planted { IfOk result (λ cut. IfSome cut (CrossesPlanted (is_planted is_half point.now))) }
         ensures none { IfOk result (λ cut. IfNone cut (LieFlat graph.now (is_planted is_half point.now))) }
     {

@@ -5,14 +5,18 @@ ghost use Rattle.xn_genus.specs.Part.{AreSegmentsApart};
 ghost use Rattle.xn_planar.specs.Named.{RiseBelow};
 
 use crate::chains::chains_of;
+use crate::trees::{mark, spare_count, spare_end, tree_of, without_spare};
 use std::alloc::{AllocError, Global};
 use xn_blocks::blocks;
 use xn_dmp::{Attempt, Jam, try_embed};
 use xn_extend::listed_web;
 use xn_graph::Web;
 
+// Of a web with more segments those outside a spanning tree are left out before chains.
+const SMALL: u32 = 256;
+
 /// Segments at which embedding by paths gets stuck, where no chain can be left out. It begins with the block of the
-/// jam, and leaves out many chains before few, then one by one. The list rises.
+/// jam, and leaves out segments outside a spanning tree where the web is large, then chains. The list rises.
 ///
 /// The contract says only that the segments are different: what they show is tested later.
 pub fn core_of(alloc: Global, web: &Web, jam: &Jam) -> Result<Vec<u32>, AllocError>
@@ -23,7 +27,63 @@ pub fn core_of(alloc: Global, web: &Web, jam: &Jam) -> Result<Vec<u32>, AllocErr
     let size = web.segments();
     let all = (0..size).collect::<Vec<u32>>(alloc)?;
     let mut keep = block_of(alloc, web, &all, jam, size)?;
-    let mut many = size / 2;
+    if size > SMALL {
+        keep = sparse(alloc, web, keep)?;
+    }
+    keep = without_chains(alloc, web, keep)?;
+    marked(alloc, web, &keep)
+}
+
+// Leaves out segments outside a spanning tree, many before few, and then one by one. It takes one tree after another.
+fn sparse(alloc: Global, web: &Web, keep: Vec<bool>) -> Result<Vec<bool>, AllocError>
+    requires { HasNoLoop web.now.ends }
+{
+    let mut keep = keep;
+    let mut many = web.segments();
+    for round in 0..32 {
+        let tree = tree_of(alloc, web, &keep, round % 2 == 0)?;
+        let spare = spare_count(web, &keep, &tree);
+        many = (many / 2).min(spare / 2);
+        if many == 0 {
+            break;
+        }
+        keep = without_spares(alloc, web, keep, &tree, many)?;
+    }
+    Ok(keep)
+}
+
+// Leaves out each run of this many segments outside a tree without which embedding still gets stuck.
+fn without_spares(
+    alloc: Global,
+    web: &Web,
+    keep: Vec<bool>,
+    tree: &[bool],
+    many: u32,
+) -> Result<Vec<bool>, AllocError>
+    requires { HasNoLoop web.now.ends }
+{
+    let mut keep = keep;
+    let mut from = 0;
+    for _ in 0..2 * web.segments() {
+        let end = spare_end(web, &keep, tree, from, many);
+        if end == from || is_least(alloc, web, &keep)? {
+            break;
+        }
+        let left = without_spare(alloc, web, &keep, tree, from, end)?;
+        match stuck_block(alloc, web, &left)? {
+            Some(block) => keep = block,
+            None => from = end,
+        }
+    }
+    Ok(keep)
+}
+
+// Leaves out chains, many before few, and then one by one.
+fn without_chains(alloc: Global, web: &Web, keep: Vec<bool>) -> Result<Vec<bool>, AllocError>
+    requires { HasNoLoop web.now.ends }
+{
+    let mut keep = keep;
+    let mut many = web.segments() / 2;
     for _ in 0..32 {
         if many == 0 {
             break;
@@ -31,7 +91,31 @@ pub fn core_of(alloc: Global, web: &Web, jam: &Jam) -> Result<Vec<u32>, AllocErr
         keep = thinned(alloc, web, keep, many)?;
         many /= 2;
     }
-    marked(alloc, web, &keep)
+    Ok(keep)
+}
+
+// Whether the marked segments of a block are so few that none can be left out where there is no flat map: 4 stay
+// outside a spanning tree in a subdivision of K3,3, and 6 of 10 chains in one of K5.
+fn is_least(alloc: Global, web: &Web, keep: &[bool]) -> Result<bool, AllocError> {
+    let tree = tree_of(alloc, web, keep, false)?;
+    let spare = spare_count(web, keep, &tree);
+    if spare == 6 {
+        return Ok(chain_count(alloc, web, keep)? == 10);
+    }
+    Ok(spare <= 4)
+}
+
+// The number of chains of the marked segments.
+fn chain_count(alloc: Global, web: &Web, keep: &[bool]) -> Result<u32, AllocError> {
+    let core = marked(alloc, web, keep)?;
+    let chains = chains_of(alloc, &listed_web(alloc, web, &core)?)?;
+    let mut count = 0;
+    for i in 0..web.segments() {
+        if named(&chains, i as usize) == i && (i as usize) < chains.len() {
+            count = i.min(count) + 1;
+        }
+    }
+    Ok(count)
 }
 
 // Leaves out each run of this many chains without which embedding still gets stuck.
@@ -44,7 +128,7 @@ fn thinned(alloc: Global, web: &Web, keep: Vec<bool>, many: u32) -> Result<Vec<b
         let core = marked(alloc, web, &keep)?;
         let chains = chains_of(alloc, &listed_web(alloc, web, &core)?)?;
         let end = run_end(&core, &chains, from, many);
-        if end == from {
+        if end == from || is_least(alloc, web, &keep)? {
             break;
         }
         let left = without_run(alloc, web, &core, &chains, from, end)?;
@@ -94,15 +178,6 @@ fn without_run(
 // The entry at a place, or 0 where there is none.
 fn named(list: &[u32], i: usize) -> u32 {
     if i < list.len() { list[i] } else { 0 }
-}
-
-// Marks a place, if there is one.
-fn mark(marks: &mut [bool], i: u32)
-    ensures { length marks.new ≡ length marks.old }
-{
-    if (i as usize) < marks.len() {
-        marks[i as usize] = true;
-    }
 }
 
 // The marked segments, rising.

@@ -9,6 +9,7 @@ mod renaming;
 mod shrinking;
 #[cfg(test)]
 mod tests;
+mod trees;
 
 pub use planarity::{Planarity, planar};
 pub use shrinking::{MinimalWeb, minimal};

@@ -19,6 +19,7 @@ use Rattle.xn_kinds.specs.State.{State, IsState}
 use Rattle.xn_kinds.specs.declared.drawings.Drawing.{Drawing}
 use Rattle.xn_kinds.specs.declared.rows.Evidence.{Evidence}
 use Rattle.xn_fewer.proofs.Rising.{has-all}
+use Rattle.xn_kura.specs.Flaws.{HasAKind}
 use Rattle.xn_plant.specs.Listed.{planted_lists}
 use Rattle.xn_plant.specs.Planting.{AreSome, HasNoMore, IsPlanted, IsRowOfState}
 use Rattle.xn_plant.specs.declared.planting.Planted.TheVariants as planted
@@ -27,14 +28,15 @@ use Rattle.xn_plant.proofs.Planned.{are_orders, crosses_order, order_crosses, pl
 
 -- the row of the planted crossings among some edges
 pub row_of_state : (g : Graph) (s : State) → IsState g s → (edges : List ℕ) → IsEdgeList (length g.ends) edges → (orders : List (List ℕ)) (evidence : Evidence) → orders ≡ planted_lists s edges →
-    EvidenceHolds (web_of g edges (order_at edges orders)) evidence → IsRowOfState g s (record { edges = edges; orders = orders; evidence = evidence })
-row_of_state g s state edges edge_list orders evidence is holds =
+    EvidenceHolds (web_of g edges (order_at edges orders)) evidence → HasAKind evidence → IsRowOfState g s (record { edges = edges; orders = orders; evidence = evidence })
+row_of_state g s state edges edge_list orders evidence is holds kind =
     subst (λ (lists : List (List ℕ)). IsRowOfState g s (record { edges = edges; orders = lists; evidence = evidence })) (sym is) (record {
       holds = record {
         lists_fit = length-map edges _;
         orders = are_orders g s state edges edge_list;
         evidence = subst (λ (lists : List (List ℕ)). EvidenceHolds (web_of g edges (order_at edges lists)) evidence) is holds;
       };
+      kind = kind;
       of_state = record {
         crosses = λ e f f_in. (order_crosses g s state edges edge_list e f f_in).1;
         planted = λ e f e_in f_in crosses. crosses_order g s state edges edge_list e f e_in f_in crosses;

@@ -12,6 +12,7 @@ use Rattle.xn_kinds.specs.State.{State}
 use Rattle.xn_kinds.specs.declared.drawings.Drawing.{Drawing}
 use Rattle.xn_kinds.specs.declared.rows.Row.{Row}
 use Rattle.xn_components.specs.Listing.{IsFlatMapOf}
+use Rattle.xn_kura.specs.Flaws.{HasAKind}
 use Rattle.xn_effort.specs.LeafLaws.{IsOfState}
 use Rattle.xn_effort.specs.Potential.{ones_in}
 use Rattle.xn_plant.specs.Listed.{planted_lists}
@@ -22,19 +23,20 @@ use Rattle.xn_plant.specs.declared.planting.Planted.TheVariants as planted
 use Rattle.xn_plant.specs.declared.planting.Tried.{Tried}
 use Rattle.xn_plant.specs.declared.planting.Tried.TheVariants as tried
 
--- a flat map of the web, or evidence that holds where there is none
+-- a flat map of the web, or a subdivision of K5 or of K3,3 where there is none
 abbrev pub IsTested : Graph → Planarity → Type 0
 IsTested web (planarity.Flat map) = IsFlatMapOf web map
-IsTested web (planarity.Not evidence) = EvidenceHolds web evidence × ((next : ℕ → ℕ) → ¬ (IsFlat web next))
+IsTested web (planarity.Not evidence) = EvidenceHolds web evidence × ((next : ℕ → ℕ) → ¬ (IsFlat web next)) × HasAKind evidence
 
 -- a drawing of the graph with at most as many crossings as the lists have
 pub record HasNoMore (g : Graph) (lists : List (List ℕ)) (d : Drawing) : Type 0 where
   pub drawing : IsListedDrawing g d.orders d.next
   pub few : crossing_count g (order_of g d.orders) ≤ crossing_count g (order_of g lists)
 
--- the row holds, and is one of the state
+-- the row holds, by a subdivision of K5 or of K3,3, and is one of the state
 pub record IsRowOfState (g : Graph) (s : State) (row : Row) : Type 0 where
   pub holds : RowHolds g row
+  pub kind : HasAKind row.evidence
   pub of_state : IsOfState row s
 
 -- the orders of the state over the edges with a flat map of their web, or a row

@@ -23,7 +23,7 @@ use xn_tree::Given;
 pub enum Planarity {
     /// It has this one.
     Flat(Map),
-    /// It has none, as this evidence shows.
+    /// It has none, as this evidence shows: a subdivision of K5 or of K3,3.
     Not(Evidence),
 }
 

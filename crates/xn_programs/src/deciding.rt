@@ -7,7 +7,7 @@ ghost use Rattle.xn_effort.specs.Potential.{ones_in};
 ghost use Rattle.xn_tree.specs.Given.{state_of};
 ghost use Rattle.xn_plant.specs.Planting.{IsRowOfState};
 ghost use Rattle.xn_search.specs.Branching.{IsOpenPair};
-ghost use Rattle.xn_search.specs.Choice.{GrowsTo, IsDecision};
+ghost use Rattle.xn_search.specs.Choice.{GrowsTo, HaveKinds, IsDecision};
 ghost use Rattle.xn_programs.specs.Turns.{IsGrown};
 
 use crate::hints::Hints;
@@ -82,6 +82,7 @@ impl<'a, P: Planes> ByPrograms<'a, P> {
         requires room { length rows.old.items < 2 ^ 20 }
         ensures more { IfOk result (λ _. GrowsTo rows.old.items rows.new.items) }
         ensures hold { IfOk result (λ _. All (RowHolds claim.now.graph.now) rows.new.items) }
+        ensures kinds { IfOk result (λ _. HaveKinds rows.old.items → HaveKinds rows.new.items) }
         ensures few { IfOk result (λ _. length rows.new.items ≤ max (length rows.old.items) 800000 + 1) }
         ensures keeps { IfOk result (MayOpen claim.now.graph.now claim.now.crossings rows.new.items (state_of given.now)) }
     {
@@ -149,6 +150,7 @@ impl<'a, P: Planes> ByPrograms<'a, P> {
         requires room { length rows.old.items < 2 ^ 20 }
         ensures more { IfOk result (λ _. GrowsTo rows.old.items rows.new.items) }
         ensures hold { IfOk result (λ _. All (RowHolds claim.now.graph.now) rows.new.items) }
+        ensures kinds { IfOk result (λ _. HaveKinds rows.old.items → HaveKinds rows.new.items) }
         ensures few { IfOk result (λ _. length rows.new.items ≤ max (length rows.old.items) 800000 + 1) }
         ensures decided { let g = claim.now.graph.now in
             IfOk result (IsDecision g claim.now.crossings rows.new.items (state_of given.now)) }

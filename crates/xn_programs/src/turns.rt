@@ -3,9 +3,10 @@ ghost use Rattle.std.specs.Prelude.{◌≡◌, All, IfOk, IfSome};
 ghost use Rattle.xn_kinds.specs.Row.{RowHolds};
 ghost use Rattle.xn_kinds.specs.State.{IsState};
 ghost use Rattle.xn_kinds.specs.Tree.{MayOpen};
+ghost use Rattle.xn_kura.specs.Flaws.{HasAKind};
 ghost use Rattle.xn_tree.specs.Given.{state_of};
 ghost use Rattle.xn_cutter.specs.Point.{IsPoint};
-ghost use Rattle.xn_programs.specs.Turns.{IsGrown, IsTurn};
+ghost use Rattle.xn_programs.specs.Turns.{IsGrown, IsTurn, is_extension};
 
 use crate::hints::{Hints, Worth};
 use crate::leaves::{Turn, by_prices, by_ray, by_row_alone};
@@ -13,7 +14,7 @@ use std::alloc::{AllocError, Global};
 use xn_cutter::Cutter;
 use xn_frac::Frac;
 use xn_graph::Graph;
-use xn_kinds::{Node, Row, Var};
+use xn_kinds::{Evidence, Node, Row, Var};
 use xn_search::Claim;
 use xn_table::Outcome;
 use xn_tree::Given;
@@ -113,7 +114,7 @@ fn ask(
 }
 
 /// A row that holds comes behind the known ones if it is new and missed at the point, or new and the state's
-/// own; none where too many are known. Whether it is new and missed.
+/// own; none where too many are known, and none with an extension. Whether it is new and missed.
 pub fn keep(
     graph: &Graph,
     row: Row,
@@ -125,6 +126,9 @@ pub fn keep(
     requires hold { All (RowHolds graph.now) rows.old.items }
     ensures grown { IfOk result (λ _. IsGrown graph.now rows.old.items rows.new.items) }
 {
+    if has_extension(&row) {
+        return Ok(false);
+    }
     let worth = hints.weigh(graph, &row)?;
     let is_wanted = worth == Worth::Now || is_own && worth == Worth::Later;
     if !is_wanted {
@@ -142,9 +146,21 @@ pub fn keep(
     Ok(false)
 }
 
+// Whether the evidence of a row is an extension.
+fn has_extension(row: &Row) -> bool
+    ensures { result ≡ is_extension row.now.evidence }
+{
+    match &row.evidence {
+        Evidence::Five { .. } => false,
+        Evidence::ThreeThree { .. } => false,
+        Evidence::Extension { .. } => true,
+    }
+}
+
 // A row that holds comes behind the known ones, where few are known: whether that is so.
 fn push_row(graph: &Graph, row: Row, rows: &mut Vec<Row>) -> Result<bool, AllocError>
     requires row { RowHolds graph.now row }
+    requires kind { HasAKind row.evidence }
     requires hold { All (RowHolds graph.now) rows.old.items }
     ensures { IfOk result (λ _. IsGrown graph.now rows.old.items rows.new.items) }
 {

@@ -11,17 +11,17 @@ ghost use Rattle.xn_rows.specs.Holding.{HasPaths, HasSizes, IsCauseFor, IsRowCau
 use crate::causes::RowErr;
 use crate::edges::wrong_edge;
 use std::alloc::{AllocError, Global};
-use xn_extend::{Extended, extend, list_flaw};
 use xn_graph::{Graph, Web};
 use xn_kinds::{Evidence, EvidenceFlaw, Row, RowFlaw};
 use xn_kura::{Marks, holds};
 use xn_orders::{OrdersFlaw, orders_flaw, planarise};
+use xn_reach::{Extended, list_flaw, reach_end};
 
 /// Whether a row is one of the graph and holds; if not, its first flaw.
 ///
 /// The flaws, in this order: edges that don't rise in range; entries that aren't listed, stand twice or only one way;
 /// dependent edges that cross; the flaw of the evidence; an end of an extension that is reached. The time is near linear in
-/// the size of the row and its web, but for the search of an extension, whose time may grow exponentially with its list.
+/// the size of the row and its web, but for an extension, where it is that of a planarity test of the listed segments.
 pub fn row_holds(alloc: Global, graph: &Graph, row: &Row) -> Result<(), RowErr>
     requires { HasSizes row.now }
     ensures { MatchResult result (λ _. RowHolds graph.now row.now) (IsRowCause graph.now row.now) }
@@ -82,7 +82,7 @@ fn check_extension(alloc: Global, web: &Web, list: &[u32]) -> Result<(), RowErr>
     if let Some(place) = list_flaw(alloc, web, list)? {
         return Err(RowErr::Flaw(RowFlaw::Evidence(EvidenceFlaw::List(place))));
     }
-    match extend(alloc, web, list)? {
+    match reach_end(alloc, web, list)? {
         Extended::None => Ok(()),
         Extended::Flat(_) => Err(RowErr::Flaw(RowFlaw::Extends)),
     }

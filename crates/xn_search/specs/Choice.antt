@@ -1,11 +1,12 @@
 -- What is decided of a state in a round of the search.
-use Rattle.std.specs.Prelude.{◌≡◌, ℕ, ◌<◌, List, ◌++◌}
+use Rattle.std.specs.Prelude.{◌≡◌, ℕ, ◌<◌, List, ◌++◌, All}
 use Rattle.xn_model.specs.Drawing.{IsListedDrawing, order_of}
 use Rattle.xn_model.specs.Graph.{Graph}
 use Rattle.xn_model.specs.Orders.{crossing_count}
 use Rattle.xn_kinds.specs.State.{State}
 use Rattle.xn_kinds.specs.Tree.{MayOpen}
 use Rattle.xn_kinds.specs.declared.rows.Row.{Row}
+use Rattle.xn_kura.specs.Flaws.{HasAKind}
 use Rattle.xn_effort.specs.Leads.{Searches}
 use Rattle.xn_search.specs.declared.decisions.Decision.{Decision}
 use Rattle.xn_search.specs.declared.decisions.Decision.TheVariants.{Open, Found}
@@ -29,3 +30,7 @@ IsRoundDecision g t rows s (Found d) = IsCountedDrawing g d × (d.crossings < t)
 -- the rows with more behind them
 abbrev pub GrowsTo : List Row → List Row → Type 0
 GrowsTo rows longer = (more : List Row) × (longer ≡ rows ++ more)
+
+-- each row shows a subdivision of K5 or of K3,3, and none has an extension
+abbrev pub HaveKinds : List Row → Type 0
+HaveKinds rows = All (λ row. HasAKind row.evidence) rows

@@ -12,6 +12,7 @@ use Rattle.xn_kinds.specs.declared.trees.Node.{Node}
 use Rattle.xn_kinds.specs.declared.trees.Node.TheVariants.{Leaf}
 use Rattle.xn_tidy.specs.FirstUse.{ByFirstUse, IsTidied}
 use Rattle.xn_tidy.specs.declared.tidying.Proof.{Proof}
+use Rattle.xn_search.specs.Choice.{HaveKinds}
 use Rattle.xn_search.specs.Search.{ProveInTurn}
 use Rattle.xn_search.specs.declared.solved.Solved.{Solved}
 
@@ -31,6 +32,7 @@ crossings_of g r = crossing_count g (order_of g r.drawing.orders)
 -- the trees of the work prove 1, 2 and so on over its rows, and its last nodes begin a proof of one more
 pub record IsWork (g : Graph) (r : Solved) : Type 0 where
   pub rows_hold : All (RowHolds g) r.work.rows
+  pub kinds : HaveKinds r.work.rows
   pub count : length r.work.rounds ≡ r.lower
   pub rounds : ProveInTurn g r.work.rows r.work.rounds
   pub unfinished : BeginsProof g (suc r.lower) r.work.rows r.work.unfinished
@@ -41,6 +43,7 @@ pub record IsSolved (g : Graph) (budget : ℕ) (r : Solved) : Type 0 where
   pub drawing : IsListedDrawing g r.drawing.orders r.drawing.next
   pub accepted : Accepts g r.lower r.rows r.tree
   pub first_use : ByFirstUse r.rows r.tree
+  pub kinds : HaveKinds r.rows
   pub few_rows : length r.rows ≤ 800000 + r.spent
   pub at_most : r.lower ≤ crossings_of g r
   pub undecided : r.lower < crossings_of g r → (r.spent ≡ budget) × IsBelowLimit g budget

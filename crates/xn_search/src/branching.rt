@@ -12,7 +12,7 @@ ghost use Rattle.xn_effort.specs.LeafLaws.{IsOfState};
 ghost use Rattle.xn_tree.specs.Given.{state_of};
 ghost use Rattle.xn_plant.specs.Planting.{IsRowOfState};
 ghost use Rattle.xn_search.specs.Branching.{HasNoOpenPair, HasNoOpenPlace, IsOpenPair, IsOpenPlace};
-ghost use Rattle.xn_search.specs.Choice.{GrowsTo, IsCountedDrawing};
+ghost use Rattle.xn_search.specs.Choice.{GrowsTo, HaveKinds, IsCountedDrawing};
 
 use crate::decisions::{Claim, Decider, Decision, Drawn};
 use std::alloc::{AllocError, Global};
@@ -81,6 +81,7 @@ pub fn by_row(
     requires room { length rows.old.items < 2 ^ 20 }
     ensures more { IfOk result (λ _. GrowsTo rows.old.items rows.new.items) }
     ensures hold { IfOk result (λ _. All (RowHolds claim.now.graph.now) rows.new.items) }
+    ensures kinds { IfOk result (λ _. HaveKinds rows.old.items → HaveKinds rows.new.items) }
     ensures few { IfOk result (λ _. length rows.new.items ≤ length rows.old.items + 1) }
     ensures keeps { IfOk result (MayOpen claim.now.graph.now claim.now.crossings rows.new.items (state_of given.now)) }
 {
@@ -111,6 +112,7 @@ fn take_row(
     requires room { length rows.old.items < 2 ^ 20 }
     ensures more { IfOk result (λ _. GrowsTo rows.old.items rows.new.items) }
     ensures hold { IfOk result (λ _. All (RowHolds claim.now.graph.now) rows.new.items) }
+    ensures kinds { IfOk result (λ _. HaveKinds rows.old.items → HaveKinds rows.new.items) }
     ensures few { IfOk result (λ _. length rows.new.items ≤ length rows.old.items + 1) }
     ensures keeps { IfOk result (MayOpen claim.now.graph.now claim.now.crossings rows.new.items (state_of given.now)) }
 {

@@ -5,7 +5,7 @@ ghost use Rattle.xn_kinds.specs.State.{IsState};
 ghost use Rattle.xn_kinds.specs.declared.trees.Node.TheVariants.{Leaf};
 ghost use Rattle.xn_effort.specs.Potential.{ones_in};
 ghost use Rattle.xn_tree.specs.Given.{state_of};
-ghost use Rattle.xn_search.specs.Choice.{GrowsTo, IsRoundDecision};
+ghost use Rattle.xn_search.specs.Choice.{GrowsTo, HaveKinds, IsRoundDecision};
 ghost use Rattle.xn_search.specs.Ones.{EndsWith};
 ghost use Rattle.xn_search.specs.Rounds.{IsRound};
 
@@ -53,6 +53,7 @@ pub fn run<D: Decider>(
     requires room { max (length rows.old.items) 800000 + budget < 2 ^ 20 }
     ensures more { IfOk result (λ r. GrowsTo rows.old.items rows.new.items) }
     ensures hold { IfOk result (λ r. All (RowHolds claim.now.graph.now) rows.new.items) }
+    ensures kinds { IfOk result (λ r. HaveKinds rows.old.items → HaveKinds rows.new.items) }
     ensures few { IfOk result (λ r. length rows.new.items ≤ max (length rows.old.items) 800000 + r.spent) }
     ensures round { IfOk result (IsRound claim.now.graph.now claim.now.crossings budget rows.new.items) }
 {
@@ -109,6 +110,7 @@ fn choose<D: Decider>(
     requires room { length rows.old.items < 2 ^ 20 }
     ensures more { IfOk result (λ _. GrowsTo rows.old.items rows.new.items) }
     ensures hold { IfOk result (λ _. All (RowHolds claim.now.graph.now) rows.new.items) }
+    ensures kinds { IfOk result (λ _. HaveKinds rows.old.items → HaveKinds rows.new.items) }
     ensures few { IfOk result (λ _. length rows.new.items ≤ max (length rows.old.items) 800000 + 1) }
     ensures chosen { let g = claim.now.graph.now in
         IfOk result (IsRoundDecision g claim.now.crossings rows.new.items (state_of given.now)) }

@@ -1,6 +1,7 @@
 -- Rows in the order in which the leaves of a tree name them first.
-use Rattle.std.specs.Prelude.{◌≡◌, ◌⊎◌, ℕ, suc, ◌<◌, ◌≤◌, List, [], ◌∷◌, ◌++◌, length, map}
+use Rattle.std.specs.Prelude.{◌≡◌, ◌⊎◌, ℕ, suc, ◌<◌, ◌≤◌, List, [], ◌∷◌, ◌++◌, length, map, All}
 use Rattle.xn_model.specs.Graph.{Graph}
+use Rattle.xn_kinds.specs.Bound.{row_at}
 use Rattle.xn_kinds.specs.State.{empty_state}
 use Rattle.xn_kinds.specs.Tree.{Accepts, Proves}
 use Rattle.xn_kinds.specs.declared.rows.Row.{Row}
@@ -32,9 +33,12 @@ ByFirstUse rows nodes = CountUp 0 (uses_of nodes) (length rows)
 abbrev pub IsSomeProof : List Row → List Node → Type 0
 IsSomeProof rows nodes = (g : Graph) × (k : ℕ) × Proves g k rows empty_state nodes
 
--- the same proof, with the rows that it names by first use
+-- the same proof, with the rows that it names by first use; they are those of some numbers
 pub record IsTidied (rows : List Row) (nodes : List Node) (p : Proof) : Type 0 where
   pub accepted : (g : Graph) (k : ℕ) → Accepts g k rows nodes → Accepts g k p.rows p.tree
   pub first_use : ByFirstUse p.rows p.tree
   pub as_long : length p.tree ≡ length nodes
   pub no_more : length p.rows ≤ length rows
+  pub numbers : List ℕ
+  pub below : All (λ i. i < length rows) numbers
+  pub picked : p.rows ≡ map (row_at rows) numbers

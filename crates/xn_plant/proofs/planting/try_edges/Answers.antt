@@ -35,4 +35,4 @@ returns-in-Not g c =
     let tested = subst (IsTested c.in_ok-web.web) c.in-Not.is c.in_ok-map.ensures in
     let holds = subst (λ (w : Graph). EvidenceHolds w c.in-Not.evidence) web tested.0 in
     subst (λ (es : List ℕ). IsRowOfState graph s (record { edges = es; orders = orders; evidence = c.in-Not.evidence })) (sym c.new.ensures)
-    (row_of_state graph s c.requires.state c.args.edges.items c.requires.edges orders c.in-Not.evidence is holds)
+    (row_of_state graph s c.requires.state c.args.edges.items c.requires.edges orders c.in-Not.evidence is holds tested.2)

@@ -14,3 +14,7 @@ loop-preserved g c =
       | in-Open+in_ok-goes_on-in-Open+else-not-branch-2 w ↦ subst (λ rows. IsGrown graph first rows.items) (sym w.rows-is)
           (grown_more graph first c.loop.rows.items w.goes_on.new.rows.items c.loop.invariant w.in_ok-goes_on-in-Open.ensures.grown)
     ]
+
+pub returns-then-not-branch-2-clause-grown : goal.returns-then-not-branch-2-clause-grown
+returns-then-not-branch-2-clause-grown g c =
+    grown_more c.args.claim.now.graph.now c.args.rows.now.items c.loop.rows.items c.goes_on.new.rows.items c.loop.invariant c.in_ok-goes_on-in-Open.ensures.grown

@@ -5,13 +5,19 @@ use Rattle.xn_kinds.specs.Row.{RowHolds}
 use Rattle.xn_kinds.specs.Tree.{MayOpen}
 use Rattle.xn_kinds.specs.declared.rows.Row.{Row}
 use Rattle.xn_kinds.specs.declared.trees.Node.TheVariants.{Leaf}
+use Rattle.xn_kura.specs.Flaws.{HasAKind}
 use Rattle.xn_tree.specs.Given.{state_of}
+use Rattle.xn_search.specs.Choice.{HaveKinds}
 use Rattle.xn_search.proofs.Asked.{leaf_keeps}
 use Rattle.xn_search.proofs.branching.take_row.Goals as goal
 
 pub returns-clause-hold : goal.returns-clause-hold
 returns-clause-hold c =
     subst (All (RowHolds c.args.claim.now.graph.now)) (sym c.in_ok-push.ensures.items) (All-push (RowHolds c.args.claim.now.graph.now) c.args.rows.now.items c.args.row c.requires.hold c.requires.row.holds)
+
+pub returns-clause-kinds : goal.returns-clause-kinds
+returns-clause-kinds c = λ kinds.
+    subst HaveKinds (sym c.in_ok-push.ensures.items) (All-push (λ (row : Row). HasAKind row.evidence) c.args.rows.now.items c.args.row kinds c.requires.row.kind)
 
 pub returns-clause-keeps : goal.returns-clause-keeps
 returns-clause-keeps c =

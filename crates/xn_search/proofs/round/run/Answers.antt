@@ -13,6 +13,7 @@ pub loop-spent-init : goal.loop-spent-init
 loop-spent-init g c = record {
   goes = goes_first c.args.claim.now.graph.now c.args.claim.now.crossings c.args.rows.now.items c.in_ok-walk.walk c.in_ok-ones.ones.items c.new-nodes.result.items c.requires.hold
       c.in_ok-walk.ensures.graph c.in_ok-walk.ensures.pending c.in_ok-ones.ensures.items c.new-nodes.ensures.items;
+  kinds = λ kinds. kinds;
   in_budget = omega arith;
 }
 
@@ -68,6 +69,9 @@ choose-requires-clause-room g c = omega (arith, c.loop-spent.invariant.goes.few,
 pub returns-in-Found-clause-more : goal.returns-in-Found-clause-more
 returns-in-Found-clause-more g c = extends_more c.args.rows.now.items c.loop-spent.rows.items c.choose.new.rows.items c.loop-spent.invariant.goes.more c.in_ok-drawn.ensures.more
 
+pub returns-in-Found-clause-kinds : goal.returns-in-Found-clause-kinds
+returns-in-Found-clause-kinds g c = λ kinds. c.in_ok-drawn.ensures.kinds (c.loop-spent.invariant.kinds kinds)
+
 pub returns-in-Found-clause-few : goal.returns-in-Found-clause-few
 returns-in-Found-clause-few g c = omega (arith, c.in_ok-drawn.ensures.few, c.loop-spent.invariant.goes.few)
 
@@ -84,6 +88,9 @@ returns-in-Found-clause-round g c =
 
 pub returns-then-is_finished-clause-more : goal.returns-then-is_finished-clause-more
 returns-then-is_finished-clause-more g c = extends_more c.args.rows.now.items c.loop-spent.rows.items c.choose.new.rows.items c.loop-spent.invariant.goes.more c.in_ok-drawn.ensures.more
+
+pub returns-then-is_finished-clause-kinds : goal.returns-then-is_finished-clause-kinds
+returns-then-is_finished-clause-kinds g c = λ kinds. c.in_ok-drawn.ensures.kinds (c.loop-spent.invariant.kinds kinds)
 
 pub returns-then-is_finished-clause-few : goal.returns-then-is_finished-clause-few
 returns-then-is_finished-clause-few g c = omega (arith, c.in_ok-drawn.ensures.few, c.loop-spent.invariant.goes.few)
@@ -113,6 +120,7 @@ loop-spent-preserved g c =
           c.in_ok-open-in-Open.ensures.opened c.push.new.self.items c.in_ok-push-in-Open.ensures.items c.count_children.new.ones.items
           c.in_ok-count_children-in-Open.ensures c.in_ok-open-in-Open.ensures.graph
           (not_where _ _ c.is_finished.ensures c.if-is_finished.false) c.in_ok-drawn.ensures.hold c.in_ok-drawn.ensures.few;
+      kinds = λ kinds. c.in_ok-drawn.ensures.kinds (c.loop-spent.invariant.kinds kinds);
       in_budget = omega (arith, c.loop-spent-test.true);
     }
 
@@ -121,6 +129,9 @@ returns-clause-more g c = c.loop-spent.invariant.goes.more
 
 pub returns-clause-hold : goal.returns-clause-hold
 returns-clause-hold g c = c.loop-spent.invariant.goes.rows_hold
+
+pub returns-clause-kinds : goal.returns-clause-kinds
+returns-clause-kinds g c = c.loop-spent.invariant.kinds
 
 pub returns-clause-few : goal.returns-clause-few
 returns-clause-few g c = omega (arith, c.loop-spent.invariant.goes.few, c.loop-spent.invariant.in_budget)
