@@ -109,10 +109,10 @@ fn is_least(alloc: Global, web: &Web, keep: &[bool]) -> Result<bool, AllocError>
 fn chain_count(alloc: Global, web: &Web, keep: &[bool]) -> Result<u32, AllocError> {
     let core = marked(alloc, web, keep)?;
     let chains = chains_of(alloc, &listed_web(alloc, web, &core)?)?;
-    let mut count = 0;
-    for i in 0..web.segments() {
-        if named(&chains, i as usize) == i && (i as usize) < chains.len() {
-            count = i.min(count) + 1;
+    let mut count: u32 = 0;
+    for (i, first) in chains.iter().enumerate() {
+        if *first as usize == i {
+            count = count.saturating_add(1);
         }
     }
     Ok(count)

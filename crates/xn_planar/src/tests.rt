@@ -55,6 +55,25 @@ const PETERSEN: [(u32, u32); 15] = [
     (8, 5),
 ];
 
+/// The Moebius ladder of five rungs.
+const LADDER: [(u32, u32); 15] = [
+    (0, 5),
+    (0, 1),
+    (1, 2),
+    (2, 3),
+    (3, 4),
+    (4, 5),
+    (1, 6),
+    (5, 6),
+    (6, 7),
+    (7, 8),
+    (8, 9),
+    (9, 0),
+    (2, 7),
+    (3, 8),
+    (4, 9),
+];
+
 /// K5 again, at node 4 of another.
 const AT_FOUR: [(u32, u32); 10] = [
     (4, 5),
@@ -174,6 +193,7 @@ fn webs_without_a_flat_map(rt: HostRuntime) -> Result<(), Fail> {
     assert_eq!(rt; kind(6, &K33, &[(0, 3)])?, "three against three");
     assert_eq!(rt; kind(9, &K5, &AT_FOUR)?, "five");
     assert_eq!(rt; kind(10, &PETERSEN, &[])?, "three against three");
+    assert_eq!(rt; kind(10, &LADDER, &[])?, "three against three");
     Ok(())
 }
 

@@ -72,10 +72,10 @@ fn head(web: &Web, d: u32) -> u32 {
 
 /// How many segments are kept outside a tree.
 pub fn spare_count(web: &Web, keep: &[bool], tree: &[bool]) -> u32 {
-    let mut count = 0;
+    let mut count: u32 = 0;
     for s in 0..web.segments() {
         if is_marked(keep, s) && !is_marked(tree, s) {
-            count = s.min(count) + 1;
+            count = count.saturating_add(1);
         }
     }
     count
