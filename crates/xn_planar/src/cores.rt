@@ -5,7 +5,7 @@ ghost use Rattle.xn_genus.specs.Part.{AreSegmentsApart};
 ghost use Rattle.xn_planar.specs.Named.{RiseBelow};
 
 use crate::chains::chains_of;
-use crate::trees::{mark, spare_count, spare_end, tree_of, without_spare};
+use crate::trees::{SEARCHES, Search, mark, spare_count, spare_end, tree_of, without_spare};
 use std::alloc::{AllocError, Global};
 use xn_blocks::blocks;
 use xn_dmp::{Attempt, Jam, try_embed};
@@ -39,15 +39,17 @@ fn sparse(alloc: Global, web: &Web, keep: Vec<bool>) -> Result<Vec<bool>, AllocE
     requires { HasNoLoop web.now.ends }
 {
     let mut keep = keep;
-    let mut many = web.segments();
-    for round in 0..32 {
-        let tree = tree_of(alloc, web, &keep, round % 2 == 0)?;
-        let spare = spare_count(web, &keep, &tree);
-        many = (many / 2).min(spare / 2);
+    let mut many = web.segments() / 2;
+    for _ in 0..32 {
         if many == 0 {
             break;
         }
-        keep = without_spares(alloc, web, keep, &tree, many)?;
+        for search in &SEARCHES {
+            let tree = tree_of(alloc, web, &keep, *search)?;
+            let half = spare_count(web, &keep, &tree) / 2;
+            keep = without_spares(alloc, web, keep, &tree, many.min(half).max(1))?;
+        }
+        many /= 2;
     }
     Ok(keep)
 }
@@ -97,7 +99,7 @@ fn without_chains(alloc: Global, web: &Web, keep: Vec<bool>) -> Result<Vec<bool>
 // Whether the marked segments of a block are so few that none can be left out where there is no flat map: 4 stay
 // outside a spanning tree in a subdivision of K3,3, and 6 of 10 chains in one of K5.
 fn is_least(alloc: Global, web: &Web, keep: &[bool]) -> Result<bool, AllocError> {
-    let tree = tree_of(alloc, web, keep, false)?;
+    let tree = tree_of(alloc, web, keep, Search::Wide)?;
     let spare = spare_count(web, keep, &tree);
     if spare == 6 {
         return Ok(chain_count(alloc, web, keep)? == 10);

@@ -1,14 +1,50 @@
-// Spanning trees by breadth: segments that are proposed to stay, while others are left out.
+// Spanning trees: segments that are proposed to stay, while others are left out.
 ghost use Rattle.std.specs.Prelude.{◌≡◌, length};
 
 use std::alloc::{AllocError, Global};
 use xn_graph::{Stars, Web};
 
-/// Marks of the kept segments by which a search by breadth comes to new nodes. It begins at the least one, and goes
-/// through the darts at each node as they rise; or at the greatest one, and as they fall.
+/// How a spanning tree is searched. It begins at the least kept segment and goes through the darts at each node as they
+/// rise, or at the greatest one and as they fall.
 ///
-/// A tree may cross a core many times where the other one doesn't, so both are taken in turn.
+/// A tree may cross a core many times where another one doesn't, so all are taken in turn.
+#[derive(Clone, Copy)]
+pub enum Search {
+    /// All darts of a node before those of the next one, rising.
+    Wide,
+    /// The same, falling.
+    WideFalling,
+    /// Each new node before the further darts of the last one, rising.
+    Deep,
+    /// The same, falling.
+    DeepFalling,
+}
+
+/// The searches, in the order in which they are tried.
+pub const SEARCHES: [Search; 4] = [
+    Search::DeepFalling,
+    Search::Deep,
+    Search::WideFalling,
+    Search::Wide,
+];
+
+/// Marks of the kept segments by which a search comes to new nodes.
 pub fn tree_of(
+    alloc: Global,
+    web: &Web,
+    keep: &[bool],
+    search: Search,
+) -> Result<Vec<bool>, AllocError> {
+    match search {
+        Search::Wide => wide_tree(alloc, web, keep, false),
+        Search::WideFalling => wide_tree(alloc, web, keep, true),
+        Search::Deep => deep_tree(alloc, web, keep, false),
+        Search::DeepFalling => deep_tree(alloc, web, keep, true),
+    }
+}
+
+// Marks of the kept segments by which a search by breadth comes to new nodes.
+fn wide_tree(
     alloc: Global,
     web: &Web,
     keep: &[bool],
@@ -29,11 +65,7 @@ pub fn tree_of(
         if v < stars.nodes() {
             let star = stars.at(v);
             for k in 0..star.len() {
-                let d = if falls {
-                    star[star.len() - 1 - k]
-                } else {
-                    star[k]
-                };
+                let d = dart_at(star, k, falls);
                 let w = head(web, d);
                 if is_marked(keep, d / 2) && !is_marked(&met, w) {
                     mark(met.as_mut_slice(), w);
@@ -44,6 +76,66 @@ pub fn tree_of(
         }
     }
     Ok(tree)
+}
+
+// Marks of the kept segments by which a search by depth comes to new nodes.
+fn deep_tree(
+    alloc: Global,
+    web: &Web,
+    keep: &[bool],
+    falls: bool,
+) -> Result<Vec<bool>, AllocError> {
+    let stars = Stars::of(alloc, web)?;
+    let mut tree = vec![in alloc; false; web.segments() as usize]?;
+    let mut met = vec![in alloc; false; web.nodes() as usize]?;
+    // how many darts of each node were looked at
+    let mut places = vec![in alloc; 0; web.nodes() as usize]?;
+    let mut path = Vec::new(alloc);
+    let root = root_of(web, keep, falls);
+    mark(met.as_mut_slice(), root);
+    path.push(root)?;
+    for _ in 0..2 * web.segments() as usize + web.nodes() as usize {
+        let Some(v) = path.pop() else {
+            break;
+        };
+        if let Some(d) = next_dart(&stars, places.as_mut_slice(), v, falls) {
+            path.push(v)?;
+            let w = head(web, d);
+            if is_marked(keep, d / 2) && !is_marked(&met, w) {
+                mark(met.as_mut_slice(), w);
+                mark(tree.as_mut_slice(), d / 2);
+                path.push(w)?;
+            }
+        }
+    }
+    Ok(tree)
+}
+
+// The next dart at a node that wasn't looked at, if there is one.
+fn next_dart(stars: &Stars, places: &mut [usize], v: u32, falls: bool) -> Option<u32>
+    ensures { length places.new ≡ length places.old }
+{
+    if v >= stars.nodes() || v as usize >= places.len() {
+        return None;
+    }
+    let star = stars.at(v);
+    let k = places[v as usize];
+    if k >= star.len() {
+        return None;
+    }
+    places[v as usize] = k + 1;
+    Some(dart_at(star, k, falls))
+}
+
+// The dart at a place of a star from its front, or from its end.
+fn dart_at(star: &[u32], k: usize, falls: bool) -> u32
+    requires { k < length star.now }
+{
+    if falls {
+        star[star.len() - 1 - k]
+    } else {
+        star[k]
+    }
 }
 
 // The first end of the least or of the greatest kept segment, or 0 where there is none.
