@@ -1,15 +1,15 @@
 -- What a row says of its pairs, edge by edge, and the account from which the rows of a leaf are taken.
 use Rattle.std.proofs.Common.{◌≡◌, ℕ, zero, suc, ◌+◌, ◌-◌, ◌*◌, ◌<◌, ◌≤◌, inl, inr, Bool, true, false, ◌&&◌, cond, eqb, List, [], ◌∷◌, length, drop, take, get_or, refl, sym, subst, ap, ◌∙◌, arith, length-drop, add-one, mul-le-mul_left}
-use Rattle.std.specs.Prelude.{ℤ, pos, ◌+ℤ◌, ◌-ℤ◌, ◌≤ℤ◌, All, Option, None, Some}
+use Rattle.std.specs.Prelude.{pos, All, Option, None, Some}
 use Rattle.std.proofs.lemmas.Bool.{cases_Bool, cond-false, eq-eqb, eqb-true, and_parts}
 use Rattle.std.proofs.lemmas.Int.{ints}
 use Rattle.std.proofs.lemmas.List.{at_drop_more, get_or-drop, get_or_default}
 use Rattle.std.proofs.lemmas.Map.Keys.{below_from_sorted, sorted_from_strictly_increasing}
 use Rattle.xn_model.specs.Graph.{Graph, Independent, edges_of, pairs_of}
 use Rattle.xn_model.specs.Lists.{has, total}
-use Rattle.xn_kinds.specs.Bound.{crossings_in, row_at}
+use Rattle.xn_kinds.specs.Bound.{crossings_in}
 use Rattle.xn_kinds.specs.Row.{Values, orders_of, pairs_value}
-use Rattle.xn_kinds.specs.State.{InBox, IsState, State}
+use Rattle.xn_kinds.specs.State.{InBox, State}
 use Rattle.xn_kinds.specs.declared.rows.Row.{Row}
 use Rattle.xn_tree.specs.Given.{ones_given, or_zero, pair_place}
 use Rattle.xn_tree.specs.Leaf.{IsRowOf}

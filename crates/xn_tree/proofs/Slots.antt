@@ -1,8 +1,8 @@
 -- A table in which a slot counts only where it leads to an entry of its own place.
-use Rattle.std.proofs.Common.{◌≡◌, ◌≢◌, ℕ, ◌+◌, ◌<◌, ◌≤◌, inl, inr, Bool, true, false, cond, eqb, List, [], ◌∷◌, ◌++◌, length, refl, sym, ap, ◌∙◌, arith, get_or, get_or-set_other, get_or-set_same, set}
+use Rattle.std.proofs.Common.{◌≡◌, ◌≢◌, ℕ, ◌+◌, ◌<◌, ◌≤◌, inl, inr, cond, eqb, List, [], ◌∷◌, ◌++◌, length, refl, sym, ap, ◌∙◌, arith, get_or, get_or-set_other, get_or-set_same, set}
 use Rattle.std.proofs.lemmas.Bool.{cases_eq, cases_lt, eq-eqb, ne_eqb}
 use Rattle.std.proofs.lemmas.List.{get_or_append_left, get_or_past, get_or_push, get_or_default}
-use Rattle.xn_tree.specs.Scale.{Weights, kept_at, no_weights, with_weights}
+use Rattle.xn_tree.specs.Scale.{kept_at, no_weights, with_weights}
 use Rattle.xn_tree.specs.declared.tables.Entry.{Entry}
 
 -- what an entry says of a place

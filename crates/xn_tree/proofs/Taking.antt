@@ -1,5 +1,5 @@
 -- More taken of one variable: the least then, and what each variable weighs then.
-use Rattle.std.proofs.Common.{◌≡◌, ◌≢◌, ℕ, zero, suc, ◌+◌, ◌-◌, ◌*◌, ◌<◌, ◌≤◌, inl, inr, Bool, true, false, ◌&&◌, cond, eqb, length, refl, sym, subst, ap, ◌∙◌, arith}
+use Rattle.std.proofs.Common.{◌≡◌, ◌≢◌, ℕ, zero, suc, ◌+◌, ◌*◌, ◌<◌, ◌≤◌, inl, inr, Bool, true, false, ◌&&◌, eqb, length, refl, sym, subst, ap, ◌∙◌, arith}
 use Rattle.std.specs.Prelude.{ℤ, pos, ◌+ℤ◌, ◌-ℤ◌, Option, max, min}
 use Rattle.std.proofs.lemmas.Bool.{and_parts, cases_Bool, cond-false, eq-eqb, eqb-true, ne_eqb}
 use Rattle.std.proofs.lemmas.Int.{ints}
@@ -8,7 +8,7 @@ use Rattle.xn_kinds.specs.Bound.{IsLeastOver}
 use Rattle.xn_kinds.specs.Row.{Values}
 use Rattle.xn_kinds.specs.State.{State, InBox}
 use Rattle.xn_tree.specs.Given.{pair_place}
-use Rattle.xn_tree.specs.Least.{Allows, Moves, Weighs, with_cross}
+use Rattle.xn_tree.specs.Least.{Moves, Weighs, with_cross}
 use Rattle.xn_tree.specs.Scale.{Account, PairsKept, PairsStand, Takes, TakesOff, account_of, of_two, pair_part, takes_of, term_at, weight, weights_of}
 use Rattle.xn_tree.proofs.Kept.{eqb-flip}
 use Rattle.xn_tree.proofs.Least.{IsVariable, crosses_variable, moves_by}

@@ -1,4 +1,4 @@
-use Rattle.std.proofs.Common.{◌≡◌, ◌+◌, ◌<◌, ◌∙◌, arith, get_or, length, length-set, subst, take}
+use Rattle.std.proofs.Common.{◌<◌, ◌∙◌, arith, get_or, length, length-set, subst}
 use Rattle.std.proofs.lemmas.List.{take_all}
 use Rattle.xn_tree.specs.Scale.{AreNotesOf}
 use Rattle.xn_tree.proofs.Noting.{noted_more}

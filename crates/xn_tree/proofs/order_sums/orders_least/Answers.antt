@@ -3,7 +3,6 @@ use Rattle.std.specs.Prelude.{pos}
 use Rattle.std.specs.Int.{w128}
 use Rattle.std.proofs.lemmas.Int.{to_z-of_z}
 use Rattle.xn_kinds.specs.Bound.{IsLeastOver}
-use Rattle.xn_kinds.specs.Row.{Values}
 use Rattle.xn_kinds.specs.State.{InBox}
 use Rattle.xn_tree.specs.Leaf.{state_in}
 use Rattle.xn_tree.specs.Scale.{orders_left}

@@ -1,9 +1,9 @@
-use Rattle.std.proofs.Common.{◌≡◌, ◌∙◌, ◌+◌, ◌-◌, ◌*◌, ◌<◌, ◌≤◌, ℕ, ap, arith, get_or, length, refl, subst, sym, take}
-use Rattle.std.specs.Prelude.{All, nat_eq}
+use Rattle.std.proofs.Common.{◌∙◌, ◌+◌, ◌-◌, ◌*◌, ◌<◌, ◌≤◌, ℕ, ap, arith, get_or, length, subst, sym, take}
+use Rattle.std.specs.Prelude.{nat_eq}
 use Rattle.std.specs.List.{IsDistinct}
 use Rattle.std.proofs.lemmas.List.{take_all}
 use Rattle.xn_model.specs.Graph.{Graph}
-use Rattle.xn_kinds.specs.Row.{Values, literal}
+use Rattle.xn_kinds.specs.Row.{literal}
 use Rattle.xn_tree.specs.Leaf.{state_in, turns_along}
 use Rattle.xn_tree.specs.Scale.{AreNotesOf, OrdersStand}
 use Rattle.xn_tree.proofs.Additions.{neighbours_apart}

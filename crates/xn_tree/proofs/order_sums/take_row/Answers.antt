@@ -1,9 +1,9 @@
-use Rattle.std.proofs.Common.{◌≡◌, ◌∙◌, ◌+◌, ◌*◌, ◌<◌, ◌≤◌, ℕ, All, add-one, ap, arith, get_or, length, refl, subst, sym, take}
+use Rattle.std.proofs.Common.{◌≡◌, ◌∙◌, ◌+◌, ◌*◌, ◌<◌, ◌≤◌, ℕ, All, ap, arith, get_or, length, refl, subst, sym, take}
 use Rattle.std.specs.Prelude.{nat_eq}
 use Rattle.std.specs.List.{IsDistinct}
 use Rattle.std.proofs.lemmas.List.{take_all}
 use Rattle.xn_model.specs.Lists.{total}
-use Rattle.xn_kinds.specs.Row.{Values, orders_of, turns_value}
+use Rattle.xn_kinds.specs.Row.{orders_of, turns_value}
 use Rattle.xn_tree.specs.Leaf.{state_in, turns_along}
 use Rattle.xn_tree.specs.Scale.{OrdersStand}
 use Rattle.xn_tree.proofs.Additions.{few_edges, short_list}

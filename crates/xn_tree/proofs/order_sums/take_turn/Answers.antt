@@ -1,5 +1,5 @@
-use Rattle.std.proofs.Common.{◌*◌, ◌-◌, ◌≤◌, arith}
-use Rattle.xn_kinds.specs.Row.{Values, literal}
+use Rattle.std.proofs.Common.{◌*◌, ◌-◌, arith}
+use Rattle.xn_kinds.specs.Row.{literal}
 use Rattle.xn_tree.specs.Leaf.{state_in}
 use Rattle.xn_tree.specs.Scale.{OrdersStand, of_two}
 use Rattle.xn_tree.proofs.Leading.{off_ok}

@@ -1,4 +1,4 @@
-use Rattle.std.proofs.Common.{◌≡◌, ◌∙◌, ◌*◌, ◌+◌, ap, sym}
+use Rattle.std.proofs.Common.{◌∙◌, ◌*◌, ◌+◌, ap, sym}
 use Rattle.xn_tree.specs.Leaf.{state_in}
 use Rattle.xn_tree.proofs.Taking.{pair_none, pair_taken_at}
 use Rattle.xn_tree.proofs.pair_sums.take_pair.Goals as goal

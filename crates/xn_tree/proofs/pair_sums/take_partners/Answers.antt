@@ -1,5 +1,4 @@
-use Rattle.std.proofs.Common.{◌+◌, ◌*◌, ◌<◌, ◌≡◌, ◌∙◌, ℕ, ap, arith, drop, get_or, length, refl, sym}
-use Rattle.xn_kinds.specs.Row.{Values}
+use Rattle.std.proofs.Common.{◌+◌, ◌*◌, ◌<◌, ◌∙◌, ap, arith, drop, get_or, length, refl, sym}
 use Rattle.xn_tree.specs.Leaf.{state_in}
 use Rattle.xn_tree.specs.Scale.{PairsStand, pair_part, partners_part}
 use Rattle.xn_tree.proofs.Leading.{leads_all, leads_on}

@@ -1,5 +1,5 @@
 use Rattle.std.proofs.Common.{◌≡◌, ◌∙◌, ◌+◌, ◌*◌, ◌<◌, ◌≤◌, ℕ, List, All, ap, arith, drop, get_or, length, length-drop, refl, subst, sym}
-use Rattle.xn_kinds.specs.Row.{Values, orders_of, pairs_value}
+use Rattle.xn_kinds.specs.Row.{orders_of, pairs_value}
 use Rattle.xn_tree.specs.Leaf.{state_in}
 use Rattle.xn_tree.specs.Scale.{PairsStand, partners_part}
 use Rattle.std.specs.Prelude.{nat_eq}

@@ -1,7 +1,7 @@
 use Rattle.std.proofs.Common.{◌≡◌, ◌∙◌, ◌+◌, ◌*◌, ◌<◌, [], ap, arith, get_or, length, refl, take}
 use Rattle.std.proofs.lemmas.List.{get_or_default, take_all}
 use Rattle.xn_kinds.specs.Bound.{row_at}
-use Rattle.xn_kinds.specs.Row.{Values, pairs_value}
+use Rattle.xn_kinds.specs.Row.{pairs_value}
 use Rattle.xn_tree.specs.Leaf.{state_in}
 use Rattle.xn_tree.specs.Scale.{PairsStand, pairs_part}
 use Rattle.xn_tree.proofs.Leading.{off_more, off_none, off_same}

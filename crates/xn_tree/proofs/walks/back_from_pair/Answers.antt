@@ -1,4 +1,4 @@
-use Rattle.std.proofs.Common.{◌≡◌, ◌∷◌, ◌∙◌, Bool, ap, false, subst, sym, true}
+use Rattle.std.proofs.Common.{◌≡◌, ◌∷◌, ◌∙◌, Bool, ap, subst, sym, true}
 use Rattle.std.specs.Prelude.{None, Some, max, min}
 use Rattle.xn_kinds.specs.State.{State, decide}
 use Rattle.xn_tree.specs.Given.{state_of}

@@ -1,4 +1,4 @@
-use Rattle.std.proofs.Common.{◌≡◌, ◌+◌, ◌<◌, ◌^◌, arith, refl}
+use Rattle.std.proofs.Common.{◌+◌, arith, refl}
 use Rattle.std.proofs.lemmas.Int.{ints}
 use Rattle.xn_tree.specs.Scale.{mapped}
 use Rattle.xn_tree.proofs.Accounts.{kept_more, mapped_more, one_more, one_small, zero_small}
